@@ -1,0 +1,3 @@
+-- Laws that other rooms cite.
+pub mod Truth
+pub mod Every

@@ -1,0 +1,13 @@
+-- What a test of two parts says of each part.
+use Prim.Native.Nat.{ℕ}
+use mathlib.Core.Path.{_≡_, refl}
+use mathlib.Core.Bool.{Bool, true, false, _&&_}
+use native.Mathlib.Omega.{arith}
+
+pub and-0 : (a b : Bool) → (a && b) ≡ true → a ≡ true
+and-0 true b h = refl
+and-0 false b h = h
+
+pub and-1 : (a b : Bool) → (a && b) ≡ true → b ≡ true
+and-1 true b h = h
+and-1 false b h = absurd (let z : _≡_ {A = ℕ} 0 1 = cc in omega arith)

@@ -1,0 +1,2 @@
+-- Definitions of the laws' own.
+pub mod Every

@@ -1,0 +1,1 @@
+// Mathematics that knows nothing of TLBs: definitions and laws in specs/ and proofs/, and no code.

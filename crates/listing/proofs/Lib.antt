@@ -1,0 +1,4 @@
+-- Laws of the listing that other rooms cite.
+
+pub mod Shown
+pub mod Walk

@@ -1,0 +1,2 @@
+-- Facts that show the book's definitions to be the paper's.
+pub mod Example

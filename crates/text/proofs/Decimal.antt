@@ -1,0 +1,73 @@
+-- A number in decimal: its last digit, the digits before it, and how many there are at most.
+use Prim.Native.Nat.{ℕ, zero, suc, _+_, _/_, _%_, _^_, _≤_, _<_}
+use mathlib.Core.Path.{_≡_, refl, sym, ap}
+use mathlib.Core.Bool.{Bool, true, false, cond}
+use mathlib.Core.List.{List, [], _∷_, _++_}
+use native.Mathlib.Nat.{pow-suc, le-refl}
+use native.Mathlib.Decide.{decLt}
+use native.Mathlib.Omega.{arith}
+use lib.Dec.{ltb, lit≤}
+use lib.ListN.{length, length-append}
+use borrow.Author.Tests.{lt-ltb, le-ltb}
+use Rattle.machine.specs.Text.{digits, decimalOf}
+use Rattle.text.specs.Put.{Put}
+use Rattle.text.proofs.Put.{andThen, putAs, putMost}
+
+-- room for more digits than a number has changes nothing
+spare : (k x : ℕ) → x < 10 ^ suc k → digits (suc (suc k)) x ≡ digits (suc k) x
+unfolding digits
+spare zero x l = simp (lt-ltb x 10 l)
+spare (suc k) x l =
+    let less : x / 10 < 10 ^ suc k = omega (arith, pow-suc 10 (suc k)) in
+    go (ltb x 10) refl (spare k (x / 10) less)
+  where
+    go : (b : Bool) → ltb x 10 ≡ b → digits (suc (suc k)) (x / 10) ≡ digits (suc k) (x / 10) →
+        digits (suc (suc (suc k))) x ≡ digits (suc (suc k)) x
+    go true t rest = simp t
+    go false t rest = rw t (ap (λ (d : List ℕ). d ++ ((48 + x % 10) ∷ [])) rest)
+
+-- a number below 10 is its digit
+pub decimal-last : (x : ℕ) → x < 10 → decimalOf x ≡ (48 + x) ∷ []
+unfolding digits decimalOf
+decimal-last x h = simp (lt-ltb x 10 h)
+
+-- any other is the digits of its tenth, and then its last digit
+pub decimal-more : (x : ℕ) → 10 ≤ x → x < 2 ^ 64 → decimalOf x ≡ decimalOf (x / 10) ++ ((48 + x % 10) ∷ [])
+unfolding digits decimalOf
+decimal-more x h l =
+    let less : x / 10 < 10 ^ 19 = omega arith in
+    simp (le-ltb x 10 h) (ap (λ (d : List ℕ). d ++ ((48 + x % 10) ∷ [])) (sym (spare 18 (x / 10) less)))
+
+few : (k x : ℕ) → length (digits k x) ≤ k
+unfolding digits
+few zero x = omega arith
+few (suc k) x = go (ltb x 10) (few k (x / 10))
+  where
+    go : (b : Bool) → length (digits k (x / 10)) ≤ k →
+        length (cond b ((48 + x) ∷ []) (digits k (x / 10) ++ ((48 + x % 10) ∷ []))) ≤ suc k
+    go true h = omega arith
+    go false h = simp length-append (omega arith)
+
+-- a number below 100 has at most two digits
+pub decimal-two : (x : ℕ) → x < 100 → length (decimalOf x) ≤ 2
+decimal-two x h = go (decLt x 10)
+  where
+    go : Dec (x < 10) → length (decimalOf x) ≤ 2
+    go (yes l) = rw (decimal-last x l) (lit≤ tt)
+    go (no l) =
+        let m : 10 ≤ x = omega arith in
+        let f : x < 2 ^ 64 = omega arith in
+        let t : x / 10 < 10 = omega arith in
+        rw (decimal-more x m f, decimal-last (x / 10) t) (lit≤ tt)
+
+-- a number has at most 20 digits
+pub decimal-few : (x : ℕ) → length (decimalOf x) ≤ 20
+unfolding decimalOf
+decimal-few x = few 20 x
+
+pub put-last : {b a : List ℕ} {n r : ℕ} (x : ℕ) → x < 10 → Put b n a r ((48 + x) ∷ []) 1 → Put b n a r (decimalOf x) 20
+put-last x h p = putAs p (lit≤ tt) (sym (decimal-last x h))
+
+pub put-more : {b m a : List ℕ} {n r q : ℕ} (x : ℕ) → 10 ≤ x → x < 2 ^ 64 →
+    Put b n m r (decimalOf (x / 10)) 20 → Put m r a q ((48 + x % 10) ∷ []) 1 → Put b n a q (decimalOf x) 20
+put-more x h l p d = putMost 20 (putAs (andThen 20 1 p d) (le-refl 21) (sym (decimal-more x h l))) (decimal-few x)

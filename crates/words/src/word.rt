@@ -1,0 +1,90 @@
+// The operation word type: SYS and SYSP are its constants, `read` and `build` its functions.
+ghost use mathlib.Core.Path.{_≡_};
+ghost use mathlib.Core.Bool.{cond};
+ghost use Prim.Native.Nat.{_≤_};
+ghost use Rattle.machine.specs.Word.{readOf, builtOf};
+use crate::crm_of;
+use crate::family_of;
+use crate::op1_of;
+use crate::op2_of;
+use crate::row_of;
+use machine::Built;
+use machine::Decoded;
+use machine::Operation;
+use machine::Row;
+
+pub struct OperationWord {
+    pub bits: u64,
+}
+
+impl OperationWord {
+    pub const SYS: u64 = 0xD508_0000;
+
+    pub const SYSP: u64 = 0xD548_0000;
+
+    // Any number gets an answer: 2^32 or more has other fixed bits.
+    pub fn read(self) -> Decoded
+        ensures { λ r. ⌜ r ≡ readOf (self .bits) ⌝ }
+    {
+        let word = self.bits;
+        let fixed = word / 524288 * 524288;
+        let crn = word / 4096 % 16;
+        let tlbip = fixed == OperationWord::SYSP;
+        let nxs = crn == 9;
+        if ((fixed == OperationWord::SYS) | tlbip) & ((crn == 8) | nxs) {
+            let row = row_of(
+                (word / 65536 % 8) as u8,
+                (word / 256 % 16) as u8,
+                (word / 32 % 8) as u8,
+            );
+            match row {
+                Row::Named(name, share) => Decoded::Known(Operation {
+                    name,
+                    share,
+                    nxs,
+                    tlbip,
+                    rt: (word % 32) as u8,
+                }),
+                Row::Unnamed => Decoded::Unknown,
+            }
+        } else {
+            Decoded::Unknown
+        }
+    }
+
+    // Any parts get an answer: an Rt of 32 or more has no place in a word.
+    pub fn build(op: Operation) -> Built
+        ensures { λ r. ⌜ r ≡ builtOf op ⌝ }
+    {
+        if op.rt < 32 {
+            let name = op.name;
+            let share = op.share;
+            let family = family_of(name);
+            let op1 = op1_of(family) as u64;
+            let crn = crn_of(op.nxs) as u64;
+            let crm = crm_of(family, share) as u64;
+            let op2 = op2_of(name, share) as u64;
+            let rt = op.rt as u64;
+            Built::Word(fixed_of(op.tlbip) + op1 * 65536 + crn * 4096 + crm * 256 + op2 * 32 + rt)
+        } else {
+            Built::Unfit
+        }
+    }
+}
+
+fn fixed_of(tlbip: bool) -> u64
+    ensures { λ r. ⌜ r ≡ cond tlbip 0xD5480000 0xD5080000 ⌝ }
+    ensures { λ r. ⌜ r ≤ 0xD5480000 ⌝ }
+{
+    if tlbip {
+        OperationWord::SYSP
+    } else {
+        OperationWord::SYS
+    }
+}
+
+fn crn_of(nxs: bool) -> u8
+    ensures { λ r. ⌜ r ≡ cond nxs 9 8 ⌝ }
+{
+    if nxs { 9 } else { 8 }
+}
