@@ -4,6 +4,8 @@ use mathlib.Core.Path.{_≡_, refl, sym, ap}
 use mathlib.Core.Bool.{true, false}
 use mathlib.Core.List.{[]}
 use native.Mathlib.Nat.{mod-eq-of-lt, mod-mod}
+use native.Mathlib.Decide.{decLe}
+use native.Mathlib.Omega.{arith}
 use lib.ListN.{length}
 use borrow.Author.Tests.{le-leb, lt-leb}
 use Rattle.machine.specs.declared.operation.Operation.{Operation}
@@ -45,3 +47,12 @@ tail-full left room h = simp (lt-leb _ _ h)
 pub tail-fits : (left room : ℕ) → length (tailOf left) ≤ room → tailWritten left room ≡ tailOf left
 unfolding tailWritten
 tail-fits left room h = simp (le-leb _ _ h)
+
+pub tail-within : (left room : ℕ) → length (tailWritten left room) ≤ room
+tail-within left room = go (decLe (length (tailOf left)) room)
+  where
+    go : Dec (length (tailOf left) ≤ room) → length (tailWritten left room) ≤ room
+    go (yes h) = rw (tail-fits left room h) h
+    go (no h) =
+        let l : room < length (tailOf left) = omega arith in
+        rw (tail-full left room l) (omega arith)

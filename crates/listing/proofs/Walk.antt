@@ -25,24 +25,24 @@ four code i h =
 
 module _ (at : ℕ) (a b c d : ℕ) (code : List ℕ) (room : ℕ) where
   -- a word whose line fits is listed, and then the rest in the room that is left
-  room-more : length (lineAt at (wordFrom a b c d)) ≤ room →
+  pub room-more : length (lineAt at (wordFrom a b c d)) ≤ room →
       roomFor at (a ∷ b ∷ c ∷ d ∷ code) room ≡ roomFor (at + 4) code (room - length (lineAt at (wordFrom a b c d))) + 4
   unfolding roomFor
   room-more h = simp (le-leb _ _ h)
 
-  written-more : length (lineAt at (wordFrom a b c d)) ≤ room →
+  pub written-more : length (lineAt at (wordFrom a b c d)) ≤ room →
       writtenOf at (a ∷ b ∷ c ∷ d ∷ code) room
       ≡ lineAt at (wordFrom a b c d) ++ writtenOf (at + 4) code (room - length (lineAt at (wordFrom a b c d)))
   unfolding writtenOf linesOf
   written-more h = rw (room-more h, add-four)
 
   -- a word whose line does not fit ends the listing
-  room-full : room < length (lineAt at (wordFrom a b c d)) → roomFor at (a ∷ b ∷ c ∷ d ∷ code) room ≡ 0
+  pub room-full : room < length (lineAt at (wordFrom a b c d)) → roomFor at (a ∷ b ∷ c ∷ d ∷ code) room ≡ 0
   unfolding roomFor
   room-full h = simp (lt-leb _ _ h)
 
 -- fewer than four bytes are no word
-room-short : (at : ℕ) (code : List ℕ) (room : ℕ) → length code < 4 → roomFor at code room ≡ 0
+pub room-short : (at : ℕ) (code : List ℕ) (room : ℕ) → length code < 4 → roomFor at code room ≡ 0
 unfolding roomFor
 room-short at [] room h = refl
 room-short at (a ∷ []) room h = refl
@@ -50,7 +50,7 @@ room-short at (a ∷ b ∷ []) room h = refl
 room-short at (a ∷ b ∷ c ∷ []) room h = refl
 room-short at (a ∷ b ∷ c ∷ d ∷ code) room h = absurd (omega arith)
 
-written-none : (at : ℕ) (code : List ℕ) (room : ℕ) → roomFor at code room ≡ 0 → writtenOf at code room ≡ []
+pub written-none : (at : ℕ) (code : List ℕ) (room : ℕ) → roomFor at code room ≡ 0 → writtenOf at code room ≡ []
 unfolding writtenOf linesOf
 written-none at code room h = rw h
 

@@ -1,0 +1,3 @@
+-- Laws of this room's own.
+
+pub mod Move
