@@ -30,7 +30,7 @@ use Rattle.machine.specs.Text.{bytes, decimalOf}
 use Rattle.machine.specs.Word.{readOf}
 use Rattle.machine.specs.Listing.{nameText, shareText, nxsText, kindText, registerText, secondText, lineOf, isListed, shownAs, lineAt, wordFrom, roomFor, writtenOf}
 use Rattle.text.proofs.Decimal.{decimal-few, decimal-two}
-use Rattle.words.proofs.Trip.{read-rt}
+use Rattle.machine.proofs.Trip.{read-rt}
 use Rattle.listing.proofs.Walk.{room-more, written-more, room-full, room-short, written-none}
 use Rattle.listing.proofs.Pieces.{room-whole}
 use Rattle.listing.specs.declared.code.Listed.{Listed}

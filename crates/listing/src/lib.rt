@@ -5,4 +5,3 @@ mod line;
 pub use code::Listed;
 pub use code::list_code;
 pub use code::list_tail;
-pub use line::put_line;

@@ -3,7 +3,7 @@ use mathlib.Core.Path.{sym, _∙_}
 use native.Mathlib.Omega.{arith}
 use lib.Dec.{lit≤}
 use borrow.Author.Needs.{needs}
-use Rattle.words.proofs.Trip.{read-rt}
+use Rattle.machine.proofs.Trip.{read-rt}
 use Rattle.text.proofs.Put.{putAs, putNone}
 use Rattle.listing.proofs.Shown.{line-listed, line-unlisted, line-unknown}
 use Rattle.listing.proofs.code.put_word.Statement.{statement}

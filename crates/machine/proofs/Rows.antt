@@ -5,16 +5,16 @@ use mathlib.Core.Bool.{Bool, true, _&&_}
 use native.Mathlib.Omega.{arith}
 use lib.Dec.{eqb, ltb}
 use borrow.Author.Tests.{eqb-true, ltb-true}
-use Rattle.machine.specs.declared.operation.Name.{Name}
-use Rattle.machine.specs.declared.operation.Name.the-variants.{RVAE1, RVAAE1, RVALE1, RVAALE1, RVAE2, RVALE2, RVAE3, RVALE3, RIPAS2E1, RIPAS2LE1}
-use Rattle.machine.specs.declared.operation.Share.{Share}
-use Rattle.machine.specs.declared.operation.Share.the-variants.{Local, Inner, Outer}
-use Rattle.machine.specs.declared.operation.Row.{Row}
-use Rattle.machine.specs.declared.operation.Row.the-variants.{Named, Unnamed}
-use Rattle.machine.specs.Word.{familyOf, op1Of, crmOf, op2Of, rowOf}
 use Rattle.laws.specs.Every.{every}
 use Rattle.laws.proofs.Every.{at}
 use Rattle.laws.proofs.Truth.{and-0, and-1}
+use Rattle.machine.specs.declared.operation.Name.{Name}
+use Rattle.machine.specs.declared.operation.Name.the-variants.{RVAE1, RVAAE1, RVALE1, RVAALE1, RVAE2, RVALE2, RVAE3, RVALE3, RIPAS2E1, RIPAS2LE1}
+use Rattle.machine.specs.declared.operation.Share.{Share}
+use Rattle.machine.specs.declared.operation.Share.the-variants.{Local, Inner, Outer}
+use Rattle.machine.specs.declared.operation.Row.{Row}
+use Rattle.machine.specs.declared.operation.Row.the-variants.{Named, Unnamed}
+use Rattle.machine.specs.Word.{familyOf, op1Of, crmOf, op2Of, rowOf}
 
 -- what holds of each shareability holds of all
 by-share : (P : Share → Type 0) → P Local → P Inner → P Outer → (s : Share) → P s

@@ -1,20 +1,20 @@
 -- Reading and building are inverse to each other: a word reads as an operation exactly when that operation builds it.
-use Prim.Native.Nat.{ℕ, _+_, _*_, _/_, _<_}
+use Prim.Native.Nat.{ℕ, _+_, _*_, _/_, _^_, _≤_, _<_}
 use mathlib.Core.Path.{_≡_, refl, sym, ap, _∙_}
 use mathlib.Core.Bool.{Bool, true, false, cond, _||_}
 use mathlib.Core.Logic.{_↔_}
 use native.Mathlib.Omega.{arith}
 use lib.Dec.{eqb, ltb}
-use borrow.Author.Tests.{eqb-true, ltb-true, lt-ltb}
-use Rattle.machine.specs.declared.operation.Operation.{Operation}
-use Rattle.machine.specs.declared.operation.Row.{Row}
-use Rattle.machine.specs.declared.operation.Row.the-variants.{Named, Unnamed}
-use Rattle.machine.specs.declared.operation.Decoded.{Decoded}
-use Rattle.machine.specs.declared.operation.Decoded.the-variants.{Known, Unknown}
-use Rattle.machine.specs.declared.operation.Built.the-variants.{Word, Unfit}
-use Rattle.machine.specs.Word.{familyOf, op1Of, crmOf, op2Of, rowOf, fixedOf, isSys, isSysp, isFixed, op1In, crnIn, crmIn, op2In, rtIn, ofRow, readOf, wordOf, builtOf}
+use borrow.Author.Tests.{eqb-true, ltb-true, lt-ltb, ne-eqb}
 use Rattle.laws.proofs.Truth.{and-0, and-1}
-use Rattle.words.proofs.Rows.{row-of-numbers, op1-below, crm-below, op2-below, numbers-of-row}
+use Rattle.machine.specs.declared.operation.Operation.{Operation}
+use Rattle.machine.specs.declared.operation.Row.{Row}
+use Rattle.machine.specs.declared.operation.Row.the-variants.{Named, Unnamed}
+use Rattle.machine.specs.declared.operation.Decoded.{Decoded}
+use Rattle.machine.specs.declared.operation.Decoded.the-variants.{Known, Unknown}
+use Rattle.machine.specs.declared.operation.Built.the-variants.{Word, Unfit}
+use Rattle.machine.specs.Word.{familyOf, op1Of, crmOf, op2Of, rowOf, fixedOf, isSys, isSysp, isFixed, op1In, crnIn, crmIn, op2In, rtIn, ofRow, readOf, wordOf, builtOf}
+use Rattle.machine.proofs.Rows.{row-of-numbers, op1-below, crm-below, op2-below, numbers-of-row}
 
 -- a word put together from its places, over the number f of its fixed bits
 abbrev word : ℕ → ℕ → ℕ → ℕ → ℕ → ℕ → ℕ
@@ -137,3 +137,8 @@ reads-built w op = (
 -- the Rt of what is read has a place
 pub read-rt : (w : ℕ) (op : Operation) → readOf w ≡ Known op → op .rt < 32
 read-rt w op h = built-word op w (read-builds w op h) .0
+
+-- 2^32 or more is not one of the operations
+pub read-far : (w : ℕ) → 2 ^ 32 ≤ w → readOf w ≡ Unknown
+unfolding readOf
+read-far w h = simp (ne-eqb (fixedOf w) 0xD5080000 (omega arith), ne-eqb (fixedOf w) 0xD5480000 (omega arith))

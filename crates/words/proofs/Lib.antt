@@ -1,4 +1,0 @@
--- Laws of instruction words that other rooms cite.
-
-pub mod Rows
-pub mod Trip
