@@ -3,9 +3,6 @@ mod numbers;
 mod row;
 mod word;
 
-pub use numbers::crm_of;
 pub use numbers::family_of;
-pub use numbers::op1_of;
-pub use numbers::op2_of;
 pub use row::row_of;
 pub use word::OperationWord;
