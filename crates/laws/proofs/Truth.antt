@@ -1,7 +1,7 @@
 -- What a test of two parts says of each part.
 use Prim.Native.Nat.{ℕ}
+use mathlib.Core.Bool.{Bool, true, false, _&&_, _||_}
 use mathlib.Core.Path.{_≡_, refl}
-use mathlib.Core.Bool.{Bool, true, false, _&&_}
 use native.Mathlib.Omega.{arith}
 
 pub and-0 : (a b : Bool) → (a && b) ≡ true → a ≡ true
@@ -11,3 +11,11 @@ and-0 false b h = h
 pub and-1 : (a b : Bool) → (a && b) ≡ true → b ≡ true
 and-1 true b h = h
 and-1 false b h = absurd (let z : _≡_ {A = ℕ} 0 1 = cc in omega arith)
+
+pub or-0 : (a b : Bool) → (a || b) ≡ false → a ≡ false
+or-0 true b h = h
+or-0 false b h = refl
+
+pub or-1 : (a b : Bool) → (a || b) ≡ false → b ≡ false
+or-1 true b h = absurd (let z : _≡_ {A = ℕ} 0 1 = cc in omega arith)
+or-1 false b h = h

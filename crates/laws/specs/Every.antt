@@ -3,6 +3,6 @@ use Prim.Native.Nat.{ℕ, zero, suc}
 use mathlib.Core.Bool.{Bool, true, _&&_}
 
 -- f holds at 0, 1, .. and the number before n
-abbrev pub every : (ℕ → Bool) → ℕ → Bool
+unfoldable pub every : (ℕ → Bool) → ℕ → Bool
 every f zero = true
 every f (suc n) = f n && every f n

@@ -1,2 +1,3 @@
 -- Definitions of the laws' own.
 pub mod Every
+pub mod Mask

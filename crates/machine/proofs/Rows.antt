@@ -1,20 +1,20 @@
 -- The row of a name's numbers is that name, and the numbers of a row's name are the row's.
 use Prim.Native.Nat.{ℕ, _+_, _*_, _/_, _%_, _<_}
-use mathlib.Core.Path.{_≡_, refl}
 use mathlib.Core.Bool.{Bool, true, _&&_}
+use mathlib.Core.Path.{_≡_, refl}
 use native.Mathlib.Omega.{arith}
 use lib.Dec.{eqb, ltb}
 use borrow.Author.Tests.{eqb-true, ltb-true}
-use Rattle.laws.specs.Every.{every}
 use Rattle.laws.proofs.Every.{at}
 use Rattle.laws.proofs.Truth.{and-0, and-1}
-use Rattle.machine.specs.declared.operation.Name.{Name}
-use Rattle.machine.specs.declared.operation.Name.the-variants.{RVAE1, RVAAE1, RVALE1, RVAALE1, RVAE2, RVALE2, RVAE3, RVALE3, RIPAS2E1, RIPAS2LE1}
-use Rattle.machine.specs.declared.operation.Share.{Share}
-use Rattle.machine.specs.declared.operation.Share.the-variants.{Local, Inner, Outer}
-use Rattle.machine.specs.declared.operation.Row.{Row}
-use Rattle.machine.specs.declared.operation.Row.the-variants.{Named, Unnamed}
+use Rattle.laws.specs.Every.{every}
 use Rattle.machine.specs.Word.{familyOf, op1Of, crmOf, op2Of, rowOf}
+use Rattle.machine.specs.declared.operation.Name.the-variants.{RVAE1, RVAAE1, RVALE1, RVAALE1, RVAE2, RVALE2, RVAE3, RVALE3, RIPAS2E1, RIPAS2LE1}
+use Rattle.machine.specs.declared.operation.Name.{Name}
+use Rattle.machine.specs.declared.operation.Row.the-variants.{Named, Unnamed}
+use Rattle.machine.specs.declared.operation.Row.{Row}
+use Rattle.machine.specs.declared.operation.Share.the-variants.{Local, Inner, Outer}
+use Rattle.machine.specs.declared.operation.Share.{Share}
 
 -- what holds of each shareability holds of all
 by-share : (P : Share → Type 0) → P Local → P Inner → P Outer → (s : Share) → P s
@@ -65,7 +65,7 @@ test : ℕ → Bool
 test k = agrees (rowOf (k / 128) (k / 8 % 16) (k % 8)) (k / 128) (k / 8 % 16) (k % 8)
 
 all-agree : every test 1024 ≡ true
-unfolding rowOf test
+unfolding rowOf test every
 all-agree = refl
 
 agrees-at : (o m p : ℕ) → o < 8 → m < 16 → p < 8 → agrees (rowOf o m p) o m p ≡ true
