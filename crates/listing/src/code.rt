@@ -13,6 +13,7 @@ use text::put_byte;
 use text::put_number;
 use text::put_text;
 use words::OperationWord;
+use words::is_odd_pair;
 
 // How much of the code has been listed, and how many bytes of text that is.
 pub struct Listed {
@@ -99,7 +100,7 @@ fn put_word(out: &mut [u8], at: u64, word: u64) -> usize
 fn is_listed(op: Operation) -> bool
     ensures { λ r. ⌜ r ≡ isListed op ⌝ }
 {
-    !(op.tlbip & ((op.rt % 2 == 1) & (op.rt != 31)))
+    !is_odd_pair(op)
 }
 
 fn put_tail(out: &mut [u8], left: u64) -> usize

@@ -1,5 +1,9 @@
 -- Facts that show the book's definitions to be the paper's.
-
 pub mod Rows
 pub mod Trip
+pub mod State
+pub mod Reach
+pub mod Alike
+pub mod Pages
+pub mod Rights
 pub mod Example

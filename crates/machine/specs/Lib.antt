@@ -1,4 +1,8 @@
--- The book: document 01 as definitions, a chapter a file.
+-- The book: document 01 as definitions, a chapter a file, and the pseudocode of documents 000 to 004.
 pub mod Word
+pub mod State
+pub mod Access
+pub mod Answer
+pub mod Pages
 pub mod Text
 pub mod Listing

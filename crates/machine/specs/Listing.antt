@@ -1,6 +1,6 @@
 -- 01, "The listing program": the text that a piece of A64 code gives.
 use Prim.Native.Nat.{ℕ, _+_, _*_, _-_, _%_, _^_}
-use mathlib.Core.Bool.{Bool, cond, not, _&&_}
+use mathlib.Core.Bool.{Bool, cond, not}
 use mathlib.Core.List.{List, [], _∷_, _++_}
 use lib.Dec.{eqb, leb}
 use lib.ListN.{length, take}
@@ -23,7 +23,7 @@ use Rattle.machine.specs.declared.operation.Operation.{Operation}
 use Rattle.machine.specs.declared.operation.Decoded.{Decoded}
 use Rattle.machine.specs.declared.operation.Decoded.the-variants.{Known, Unknown}
 use Rattle.machine.specs.Text.{bytes, decimalOf}
-use Rattle.machine.specs.Word.{readOf}
+use Rattle.machine.specs.Word.{readOf, isOddPair}
 
 abbrev pub nameText : Name → List ℕ
 nameText RVAE1 = bytes "RVAE1"
@@ -71,7 +71,7 @@ lineOf at op =
 
 -- "SYSP with odd Rt below 31 isn't listed."
 abbrev pub isListed : Operation → Bool
-isListed op = not (op .tlbip && (eqb (op .rt % 2) 1 && not (eqb (op .rt) 31)))
+isListed op = not (isOddPair op)
 
 -- the line of what a word is, at an offset (modulo 2^64), or nothing
 abbrev pub shownAs : ℕ → Decoded → List ℕ

@@ -177,3 +177,7 @@ wordOf op =
 -- an Rt of 32 or more has no place in a word
 unfoldable pub builtOf : Operation → Built
 builtOf op = cond (ltb (op .rt) 32) (Word (wordOf op)) Unfit
+
+-- "SYSP with odd Rt below 31"
+abbrev pub isOddPair : Operation → Bool
+isOddPair op = op .tlbip && eqb (op .rt % 2) 1 && ltb (op .rt) 31
