@@ -1,0 +1,29 @@
+-- `processor::board::is_bad_board` meets its contract.
+use borrow.Author.Needs.{needs}
+use borrow.Author.Tests.{le-leb, le-ltb, lt-leb, lt-ltb}
+use Rattle.machine.specs.State.{badBoard}
+use Rattle.processor.proofs.board.is_bad_board.Statement.{statement}
+use Rattle.processor.proofs.board.is_bad_board.Tie as tie
+
+returns : tie.Need-returns
+unfolding badBoard
+returns c = simp (lt-ltb _ _ (c .if1 .taken))
+
+returns-2 : tie.Need-returns-2
+unfolding badBoard
+returns-2 c = simp (lt-ltb _ _ (c .if2 .taken), le-ltb _ _ (c .before .before .if1 .left))
+
+returns-3 : tie.Need-returns-3
+unfolding badBoard
+returns-3 c = simp (le-leb _ _ (c .if3 .taken), le-ltb _ _ (c .before .before .if2 .left), le-ltb _ _ (c .before .before .before .before .if1 .left))
+
+domains-agree-requires : tie.Need-domains-agree-requires
+domains-agree-requires c κs = search needs
+
+returns-4 : tie.Need-returns-4
+unfolding badBoard
+returns-4 c = simp (c .domains-agree .ensures, lt-leb _ _ (c .before .if3 .left), le-ltb _ _ (c .before .before .before .if2 .left), le-ltb _ _ (c .before .before .before .before .before .if1 .left))
+
+pub is-bad-board-spec : {M : Type 1} → statement M
+is-bad-board-spec =
+    tie.close (tie.spec returns returns-2 returns-3 domains-agree-requires returns-4)
