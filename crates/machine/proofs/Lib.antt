@@ -5,5 +5,6 @@ pub mod State
 pub mod Reach
 pub mod Alike
 pub mod Pages
+pub mod Sample
 pub mod Rights
 pub mod Example

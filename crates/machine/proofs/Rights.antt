@@ -1,11 +1,12 @@
 -- The access rules computed: m9 and m10, in one state and in every state of which they speak, and corners of the rules.
 use Prim.Native.Nat.{ℕ, _+_}
-use mathlib.Core.Bool.{Bool, true, false, not, _&&_}
-use mathlib.Core.List.{List, [], _∷_}
+use mathlib.Core.Bool.{Bool, true, false}
+use mathlib.Core.List.{[], _∷_}
 use mathlib.Core.Path.{_≡_, refl}
 use lib.Dec.{eqb}
 use Rattle.laws.specs.Every.{every}
 use Rattle.laws.specs.Mask.{maskFrom}
+use Rattle.machine.proofs.Sample.{two, three, NS, NSE, EEL2, FGTEn, HXEn, E2H, TGE, TTLB, TTLBIS, TTLBOS, NV, FnXS, FGTnXS, flagged, RME, SEL2, noRange, noOs, noD128, noXs, noFgt, noHcx, noLpa2, at, boarded, hostWithDs}
 use Rattle.machine.specs.Access.{isBarred, isTrapped, reaches, reachedOf, scopeOf, accessE1, accessE2, accessStage2, accessE3, accessOf, isUnit64K, trapFlag}
 use Rattle.machine.specs.Answer.{accessNumber, accessValue}
 use Rattle.machine.specs.Pages.{op003}
@@ -15,12 +16,7 @@ use Rattle.machine.specs.declared.operation.Decoded.the-variants.{Known,
 use Rattle.machine.specs.declared.operation.Decoded.{Decoded}
 use Rattle.machine.specs.declared.operation.Name.the-variants.{RVAE1, RVAAE1, RVALE1, RVAALE1}
 use Rattle.machine.specs.declared.operation.Share.the-variants.{Local, Inner, Outer}
-use Rattle.machine.specs.declared.processor.Board.{Board}
-use Rattle.machine.specs.declared.processor.Features.{Features}
 use Rattle.machine.specs.declared.processor.Flags.{Flags}
-use Rattle.machine.specs.declared.processor.Hcr.{Hcr}
-use Rattle.machine.specs.declared.processor.Hcrx.{Hcrx}
-use Rattle.machine.specs.declared.processor.Scr.{Scr}
 use Rattle.machine.specs.declared.processor.State.{State}
 use Rattle.machine.specs.declared.processor.Traps.{Traps}
 use Rattle.machine.specs.declared.scope.Access.the-variants.{Undefined, Trapped, NoEffect, Runs}
@@ -29,73 +25,6 @@ use Rattle.machine.specs.declared.scope.Regime.the-variants.{EL10, EL20,
 use Rattle.machine.specs.declared.scope.Regime.{Regime}
 use Rattle.machine.specs.declared.scope.Security.the-variants.{Secure, NonSecure, Realm, Root}
 use Rattle.machine.specs.declared.scope.Security.{Security}
-
--- NS, NSE, EEL2, FGTEn, HXEn
-abbrev scr : Bool → Bool → Bool → Bool → Bool → Scr
-scr ns nse eel2 fgten hxen = record { ns = ns; nse = nse; eel2 = eel2; fgten = fgten; hxen = hxen }
-
--- E2H, TGE, TTLB, TTLBIS, TTLBOS, NV
-abbrev hcr : Bool → Bool → Bool → Bool → Bool → Bool → Hcr
-hcr e2h tge ttlb ttlbis ttlbos nv = record { e2h = e2h; tge = tge; ttlb = ttlb; ttlbis = ttlbis; ttlbos = ttlbos; nv = nv }
-
-abbrev traps : Flags → Traps
-traps f = record { rvae1 = f; rvaae1 = f; rvale1 = f; rvaale1 = f }
-
--- processor 1 of 3, of which 0 and 1 are in one inner domain
-abbrev board : Board
-board = record {
-  own = 1;
-  count = 3;
-  inner = 4 ∷ 4 ∷ 5 ∷ 4 ∷ 4 ∷ 4 ∷ 4 ∷ 4 ∷ [];
-  outer = 9 ∷ 9 ∷ 9 ∷ 8 ∷ 8 ∷ 8 ∷ 8 ∷ 8 ∷ [];
-}
-
--- features by RME, SEL2, HCX and XS; the others are all there
-abbrev features : Bool → Bool → Bool → Bool → Features
-features rme sel2 hcx xs = record {
-  tlbirange = true;
-  tlbios = true;
-  d128 = true;
-  xs = xs;
-  lpa2 = true;
-  rme = rme;
-  sel2 = sel2;
-  fgt = true;
-  hcx = hcx;
-}
-
--- TLBIRANGE alone, and D128 alone
-abbrev rangeOrPair : Bool → Features
-rangeOrPair range = record {
-  tlbirange = range;
-  tlbios = false;
-  d128 = not range;
-  xs = false;
-  lpa2 = false;
-  rme = false;
-  sel2 = false;
-  fgt = false;
-  hcx = false;
-}
-
--- a state at a level, with EL2 and EL3 present or not, every trap flag set or none, and VMID 7
-abbrev state : ℕ → Bool → Bool → Features → Scr → Hcr → Hcrx → Bool → State
-state el two three f s h x flag = record {
-  el = el;
-  present = record { el2 = two; el3 = three };
-  features = f;
-  scr = s;
-  hcr = h;
-  hcrx = x;
-  traps = traps (record { local = flag; inner = flag; outer = flag });
-  ds = record { el1 = true; el2 = false; el3 = true; stage2 = false };
-  vmid = 7;
-  board = board;
-}
-
--- FnXS, FGTnXS
-abbrev hcrx : Bool → Bool → Hcrx
-hcrx fnxs fgtnxs = record { fnxs = fnxs; fgtnxs = fgtnxs }
 
 -- a word's answer: its number and its value
 abbrev answer : Decoded → State → ℕ × ℕ
@@ -129,102 +58,88 @@ pub m10 : (st : State) → st .features .d128 ≡ true → st .el ≡ 3 → el2E
 unfolding readOf rowOf accessOf isBarred accessStage2
 m10 st d128 el off = (refl, simp (d128, el, off), simp (d128, el, off))
 
-abbrev noScr : Scr
-noScr = scr false false false false false
-
-abbrev noHcr : Hcr
-noHcr = hcr false false false false false false
-
--- m9 and m10 and odd Rt before them; what traps, and what no flag traps; absent features; E3 names below EL3
+-- m9 and m10, and odd Rt before them; what traps E1 names at EL1, with FGT, FGTEn, HCX, HXEn and FGTnXS; absent features; EL0; E2 names;
+-- E3 names below EL3
 pub answers :
-    (answer (readOf 0xD54C80C0) (state 1 true false (features false false true true) noScr (hcr false false false false false true) (hcrx false false) false) ≡ (4, 0x14))
-    × (answer (readOf 0xD54C80C0) (state 3 true true (features false false true true) noScr noHcr (hcrx false false) false) ≡ (5, 0))
-    × (answer (readOf 0xD54C80C1) (state 1 true false (features false false true true) noScr (hcr false false false false false true) (hcrx false false) false) ≡ (3, 0))
-    × (answer (readOf 0xD54C80C1) (state 3 true true (features false false true true) noScr noHcr (hcrx false false) false) ≡ (3, 0))
-    × (answer (readOf 0xD5088260) (state 1 true false (features false false true true) noScr noHcr (hcrx false false) true) ≡ (4, 0x18))
-    × (answer (readOf 0xD5089260) (state 1 true false (features false false false true) noScr noHcr (hcrx false false) true) ≡ (0, 0))
-    × (answer (readOf 0xD5089260) (state 1 true false (features false false true true) noScr noHcr (hcrx false true) true) ≡ (0, 0))
-    × (answer (readOf 0xD5089260) (state 1 true true (features false false true true) (scr true false false true false) noHcr (hcrx false true) true) ≡ (4, 0x18))
-    × (answer (readOf 0xD5088260) (state 1 true true (features false false true true) (scr true false false false false) noHcr (hcrx false true) true) ≡ (0, 0))
-    × (answer (readOf 0xD5088260) (state 1 true false (features false false true true) noScr (hcr false false false true false false) (hcrx false true) false) ≡ (4, 0x18))
-    × (answer (readOf 0xD5088560) (state 1 true false (features false false true true) noScr (hcr false false false true false false) (hcrx false true) false) ≡ (0, 0))
-    × (answer (readOf 0xD5488560) (state 1 true false (features false false true true) noScr (hcr false false false false true false) (hcrx false true) false) ≡ (4, 0x14))
-    × (answer (readOf 0xD5088660) (state 1 true false (features false false true true) noScr (hcr false false false true true false) (hcrx false true) false) ≡ (0, 0))
-    × (answer (readOf 0xD5088660) (state 1 true false (rangeOrPair true) noScr noHcr (hcrx false false) true) ≡ (0, 0))
-    × (answer (readOf 0xD5088260) (state 1 true false (rangeOrPair true) noScr noHcr (hcrx false false) true) ≡ (0, 0))
-    × (answer (readOf 0xD5088560) (state 1 true false (rangeOrPair true) noScr noHcr (hcrx false false) true) ≡ (3, 0))
-    × (answer (readOf 0xD5488560) (state 1 true false (rangeOrPair true) noScr noHcr (hcrx false false) true) ≡ (3, 0))
-    × (answer (readOf 0xD5488560) (state 1 true false (rangeOrPair false) noScr noHcr (hcrx false false) true) ≡ (0, 0))
-    × (answer (readOf 0xD5088660) (state 1 true false (rangeOrPair false) noScr noHcr (hcrx false false) true) ≡ (3, 0))
-    × (answer (readOf 0xD5089260) (state 1 false false (features false false true false) noScr noHcr (hcrx false false) false) ≡ (3, 0))
-    × (answer (readOf 0xD5088260) (state 0 false false (features false false true true) noScr noHcr (hcrx false false) false) ≡ (3, 0))
-    × (answer (readOf 0xD50C8620) (state 1 true false (features false false true true) noScr (hcr true true true true true false) (hcrx false false) true) ≡ (3, 0))
-    × (answer (readOf 0xD50C8620) (state 3 true true (features false false true true) noScr noHcr (hcrx false false) false) ≡ (3, 0))
-    × (answer (readOf 0xD50E8620) (state 1 true true (features false false true true) (scr true false false false false) (hcr false false false false false true) (hcrx false false) true) ≡ (3, 0))
+    (answer (readOf 0xD54C80C0) (at 1 (two ∷ NV ∷ [])) ≡ (4, 0x14))
+    × (answer (readOf 0xD54C80C0) (at 3 (two ∷ three ∷ [])) ≡ (5, 0))
+    × (answer (readOf 0xD54C80C1) (at 1 (two ∷ NV ∷ [])) ≡ (3, 0))
+    × (answer (readOf 0xD54C80C1) (at 3 (two ∷ three ∷ [])) ≡ (3, 0))
+    × (answer (readOf 0xD5088260) (at 1 (two ∷ flagged ∷ [])) ≡ (4, 0x18))
+    × (answer (readOf 0xD5088260) (at 1 (two ∷ flagged ∷ noFgt ∷ [])) ≡ (0, 0))
+    × (answer (readOf 0xD5088260) (at 1 (flagged ∷ [])) ≡ (0, 0))
+    × (answer (readOf 0xD5088260) (at 1 (two ∷ three ∷ NS ∷ flagged ∷ [])) ≡ (0, 0))
+    × (answer (readOf 0xD5088260) (at 1 (two ∷ three ∷ NS ∷ FGTEn ∷ flagged ∷ [])) ≡ (4, 0x18))
+    × (answer (readOf 0xD5089260) (at 1 (two ∷ flagged ∷ [])) ≡ (4, 0x18))
+    × (answer (readOf 0xD5089260) (at 1 (two ∷ flagged ∷ noHcx ∷ [])) ≡ (0, 0))
+    × (answer (readOf 0xD5089260) (at 1 (two ∷ flagged ∷ FGTnXS ∷ [])) ≡ (0, 0))
+    × (answer (readOf 0xD5089260) (at 1 (two ∷ three ∷ NS ∷ FGTEn ∷ flagged ∷ FGTnXS ∷ [])) ≡ (4, 0x18))
+    × (answer (readOf 0xD5089260) (at 1 (two ∷ three ∷ NS ∷ FGTEn ∷ HXEn ∷ flagged ∷ FGTnXS ∷ [])) ≡ (0, 0))
+    × (answer (readOf 0xD5088660) (at 1 (two ∷ TTLB ∷ [])) ≡ (4, 0x18))
+    × (answer (readOf 0xD5088260) (at 1 (two ∷ TTLBIS ∷ [])) ≡ (4, 0x18))
+    × (answer (readOf 0xD5088560) (at 1 (two ∷ TTLBIS ∷ [])) ≡ (0, 0))
+    × (answer (readOf 0xD5488560) (at 1 (two ∷ TTLBOS ∷ [])) ≡ (4, 0x14))
+    × (answer (readOf 0xD5088660) (at 1 (two ∷ TTLBIS ∷ TTLBOS ∷ [])) ≡ (0, 0))
+    × (answer (readOf 0xD5088660) (at 1 (noOs ∷ noD128 ∷ [])) ≡ (0, 0))
+    × (answer (readOf 0xD5088260) (at 1 (noOs ∷ noD128 ∷ [])) ≡ (0, 0))
+    × (answer (readOf 0xD5088560) (at 1 (noOs ∷ noD128 ∷ [])) ≡ (3, 0))
+    × (answer (readOf 0xD5488660) (at 1 (noOs ∷ noD128 ∷ [])) ≡ (3, 0))
+    × (answer (readOf 0xD5488560) (at 1 (noRange ∷ noOs ∷ [])) ≡ (0, 0))
+    × (answer (readOf 0xD5088660) (at 1 (noRange ∷ noOs ∷ [])) ≡ (3, 0))
+    × (answer (readOf 0xD5089260) (at 1 (noXs ∷ [])) ≡ (3, 0))
+    × (answer (readOf 0xD5088260) (at 0 []) ≡ (3, 0))
+    × (answer (readOf 0xD50C8620) (at 1 (two ∷ E2H ∷ TGE ∷ TTLB ∷ TTLBIS ∷ TTLBOS ∷ flagged ∷ [])) ≡ (3, 0))
+    × (answer (readOf 0xD50C8620) (at 1 (two ∷ NV ∷ [])) ≡ (4, 0x18))
+    × (answer (readOf 0xD50C8620) (at 3 (two ∷ three ∷ [])) ≡ (3, 0))
+    × (answer (readOf 0xD50E8620) (at 1 (two ∷ three ∷ NS ∷ NV ∷ [])) ≡ (3, 0))
+    × (answer (readOf 0xD50E8620) (at 2 (two ∷ three ∷ NS ∷ [])) ≡ (3, 0))
 unfolding readOf rowOf accessOf isBarred isTrapped accessE1 accessE2 accessE3 accessStage2 scopeOf el2Enabled securityOf hcrxLive
-answers = (refl, refl, refl, refl, refl, refl, refl, refl, refl, refl, refl, refl, refl, refl, refl, refl, refl, refl, refl, refl, refl, refl, refl, refl)
+answers = (refl, refl, refl, refl, refl, refl, refl, refl, refl, refl, refl, refl, refl, refl, refl, refl, refl, refl, refl, refl, refl, refl, refl, refl, refl, refl, refl, refl, refl, refl, refl, refl)
 
 -- E2H, TGE and VMID while EL2 is disabled, at EL1, and each alone; the security states; FnXS at EL1 and EL2, with XS and without
 pub scopes :
-    (ran (readOf 0xD5088260) (state 3 true true (features false false true true) noScr (hcr true true false false false false) (hcrx false false) false) ≡ (EL10, Secure, 0, false))
-    × (ran (readOf 0xD5088260) (state 3 true true (features false false true true) (scr true false false false false) (hcr true true false false false false) (hcrx false false) false) ≡ (EL20, NonSecure, 0, false))
-    × (ran (readOf 0xD5088260) (state 3 true true (features false false true true) (scr true false false false false) (hcr true false false false false false) (hcrx false false) false) ≡ (EL10, NonSecure, 7, false))
-    × (ran (readOf 0xD50C8620) (state 3 true true (features false false true true) (scr true false false false false) (hcr true false false false false false) (hcrx false false) false) ≡ (EL20, NonSecure, 0, false))
-    × (ran (readOf 0xD50C8620) (state 2 true true (features false false true true) (scr true false false false false) (hcr false true false false false false) (hcrx false false) false) ≡ (EL2, NonSecure, 0, false))
-    × (ran (readOf 0xD5088260) (state 1 true false (features false false true true) noScr (hcr true true false false false false) (hcrx false false) false) ≡ (EL10, NonSecure, 7, false))
-    × (ran (readOf 0xD5088260) (state 1 false false (features false false true true) noScr noHcr (hcrx false false) false) ≡ (EL10, NonSecure, 0, false))
-    × (ran (readOf 0xD5088260) (state 1 true true (features true false true true) (scr false false true false false) noHcr (hcrx false false) false) ≡ (EL10, Secure, 0, false))
-    × (ran (readOf 0xD5088260) (state 1 true true (features true true true true) (scr false false true false false) noHcr (hcrx false false) false) ≡ (EL10, Secure, 7, false))
-    × (ran (readOf 0xD5088260) (state 1 true true (features true false true true) (scr true true false false false) noHcr (hcrx false false) false) ≡ (EL10, Realm, 7, false))
-    × (ran (readOf 0xD5088260) (state 1 true true (features false false true true) (scr true true false false false) noHcr (hcrx false false) false) ≡ (EL10, NonSecure, 7, false))
-    × (ran (readOf 0xD50E8620) (state 3 true true (features false false true true) (scr true false false false false) noHcr (hcrx false false) false) ≡ (EL3, Secure, 0, false))
-    × (ran (readOf 0xD50E8620) (state 3 true true (features true false true true) (scr true false false false false) noHcr (hcrx false false) false) ≡ (EL3, Root, 0, false))
-    × (ran (readOf 0xD50C8040) (state 2 true false (features false false true true) noScr noHcr (hcrx true false) false) ≡ (EL10, NonSecure, 7, false))
-    × (ran (readOf 0xD5088260) (state 1 true false (features false false true true) noScr noHcr (hcrx true false) false) ≡ (EL10, NonSecure, 7, true))
-    × (ran (readOf 0xD5088260) (state 1 true false (features false false true false) noScr noHcr (hcrx true false) false) ≡ (EL10, NonSecure, 7, false))
-    × (ran (readOf 0xD5088260) (state 2 true false (features false false true true) noScr noHcr (hcrx true false) false) ≡ (EL10, NonSecure, 7, false))
-    × (ran (readOf 0xD50C9620) (state 2 true false (features false false true true) noScr noHcr (hcrx false false) false) ≡ (EL2, NonSecure, 0, true))
+    (ran (readOf 0xD5088260) (at 3 (two ∷ three ∷ E2H ∷ TGE ∷ [])) ≡ (EL10, Secure, 0, false))
+    × (ran (readOf 0xD5088260) (at 3 (two ∷ three ∷ NS ∷ E2H ∷ TGE ∷ [])) ≡ (EL20, NonSecure, 0, false))
+    × (ran (readOf 0xD5088260) (at 3 (two ∷ three ∷ NS ∷ E2H ∷ [])) ≡ (EL10, NonSecure, 7, false))
+    × (ran (readOf 0xD5088260) (at 3 (two ∷ three ∷ NS ∷ TGE ∷ [])) ≡ (EL10, NonSecure, 7, false))
+    × (ran (readOf 0xD50C8620) (at 3 (two ∷ three ∷ NS ∷ E2H ∷ [])) ≡ (EL20, NonSecure, 0, false))
+    × (ran (readOf 0xD50C8620) (at 2 (two ∷ three ∷ NS ∷ TGE ∷ [])) ≡ (EL2, NonSecure, 0, false))
+    × (ran (readOf 0xD5088260) (at 1 (two ∷ E2H ∷ TGE ∷ [])) ≡ (EL10, NonSecure, 7, false))
+    × (ran (readOf 0xD5088260) (at 1 []) ≡ (EL10, NonSecure, 0, false))
+    × (ran (readOf 0xD5088260) (at 1 (two ∷ three ∷ EEL2 ∷ RME ∷ [])) ≡ (EL10, Secure, 0, false))
+    × (ran (readOf 0xD5088260) (at 1 (two ∷ three ∷ EEL2 ∷ RME ∷ SEL2 ∷ [])) ≡ (EL10, Secure, 7, false))
+    × (ran (readOf 0xD5088260) (at 1 (two ∷ three ∷ NS ∷ NSE ∷ RME ∷ [])) ≡ (EL10, Realm, 7, false))
+    × (ran (readOf 0xD5088260) (at 1 (two ∷ three ∷ NS ∷ NSE ∷ [])) ≡ (EL10, NonSecure, 7, false))
+    × (ran (readOf 0xD50E8620) (at 3 (two ∷ three ∷ NS ∷ [])) ≡ (EL3, Secure, 0, false))
+    × (ran (readOf 0xD50E8620) (at 3 (two ∷ three ∷ NS ∷ RME ∷ [])) ≡ (EL3, Root, 0, false))
+    × (ran (readOf 0xD50C8040) (at 2 (two ∷ FnXS ∷ [])) ≡ (EL10, NonSecure, 7, false))
+    × (ran (readOf 0xD5088260) (at 1 (two ∷ FnXS ∷ [])) ≡ (EL10, NonSecure, 7, true))
+    × (ran (readOf 0xD5088260) (at 1 (two ∷ FnXS ∷ noXs ∷ [])) ≡ (EL10, NonSecure, 7, false))
+    × (ran (readOf 0xD5088260) (at 1 (two ∷ FnXS ∷ noHcx ∷ [])) ≡ (EL10, NonSecure, 7, false))
+    × (ran (readOf 0xD5088260) (at 2 (two ∷ FnXS ∷ [])) ≡ (EL10, NonSecure, 7, false))
+    × (ran (readOf 0xD50C9620) (at 2 (two ∷ [])) ≡ (EL2, NonSecure, 0, true))
 unfolding readOf rowOf accessOf isBarred isTrapped accessE1 accessE2 accessE3 accessStage2 scopeOf el2Enabled securityOf hcrxLive securityIn vmidIn
-scopes = (refl, refl, refl, refl, refl, refl, refl, refl, refl, refl, refl, refl, refl, refl, refl, refl, refl, refl)
-
--- eight domains, of which the last five are one
-abbrev eight : ℕ → ℕ → ℕ → List ℕ
-eight a b c = a ∷ b ∷ c ∷ 9 ∷ 9 ∷ 9 ∷ 9 ∷ 9 ∷ []
-
--- a board of n processors, with number o the own
-abbrev small : ℕ → ℕ → List ℕ → List ℕ → State
-small n o inner outer = record {
-  el = 1;
-  present = record { el2 = false; el3 = false };
-  features = features false false false false;
-  scr = noScr;
-  hcr = noHcr;
-  hcrx = hcrx false false;
-  traps = traps (record { local = false; inner = false; outer = false });
-  ds = record { el1 = true; el2 = false; el3 = true; stage2 = false };
-  vmid = 7;
-  board = record { own = o; count = n; inner = inner; outer = outer };
-}
+scopes = (refl, refl, refl, refl, refl, refl, refl, refl, refl, refl, refl, refl, refl, refl, refl, refl, refl, refl, refl, refl)
 
 -- levels, EL2 and EL3 absent or disabled, RME's pairs, counts and own numbers, and domains below and above the count
 pub bad :
-    (badState (state 4 true true (features false false true true) noScr noHcr (hcrx false false) false) ≡ true)
-    × (badState (state 3 true true (features false false true true) noScr noHcr (hcrx false false) false) ≡ false)
-    × (badState (state 3 true false (features false false true true) noScr noHcr (hcrx false false) false) ≡ true)
-    × (badState (state 2 false false (features false false true true) noScr noHcr (hcrx false false) false) ≡ true)
-    × (badState (state 2 true true (features false false true true) (scr false false true false false) noHcr (hcrx false false) false) ≡ true)
-    × (badState (state 2 true true (features false true true true) (scr false false true false false) noHcr (hcrx false false) false) ≡ false)
-    × (badState (state 1 true false (features true false true true) noScr noHcr (hcrx false false) false) ≡ true)
-    × (badState (state 3 true true (features true false true true) (scr false true false false false) noHcr (hcrx false false) false) ≡ true)
-    × (badState (state 3 true true (features false false true true) (scr false true false false false) noHcr (hcrx false false) false) ≡ false)
-    × (badState (small 0 0 (eight 0 0 0) (eight 0 0 0)) ≡ true)
-    × (badState (small 1 0 (eight 0 0 0) (eight 0 0 0)) ≡ false)
-    × (badState (small 1 1 (eight 0 0 0) (eight 0 0 0)) ≡ true)
-    × (badState (small 9 0 (eight 0 0 0) (eight 0 0 0)) ≡ true)
-    × (badState (small 8 7 (eight 0 0 0) (eight 0 0 0)) ≡ false)
-    × (badState (small 3 0 (eight 1 2 1) (eight 5 5 6)) ≡ true)
-    × (badState (small 2 0 (eight 1 2 1) (eight 5 5 6)) ≡ false)
-    × (badState (small 3 0 (eight 1 2 1) (eight 5 6 5)) ≡ false)
+    (badState (at 4 (two ∷ three ∷ [])) ≡ true)
+    × (badState (at 3 (two ∷ three ∷ [])) ≡ false)
+    × (badState (at 3 (two ∷ [])) ≡ true)
+    × (badState (at 2 []) ≡ true)
+    × (badState (at 2 (two ∷ three ∷ EEL2 ∷ [])) ≡ true)
+    × (badState (at 2 (two ∷ three ∷ EEL2 ∷ SEL2 ∷ [])) ≡ false)
+    × (badState (at 1 (two ∷ RME ∷ [])) ≡ true)
+    × (badState (at 3 (two ∷ three ∷ NSE ∷ RME ∷ [])) ≡ true)
+    × (badState (at 3 (two ∷ three ∷ NSE ∷ [])) ≡ false)
+    × (badState (boarded 0 0 (0 ∷ 0 ∷ 0 ∷ []) (0 ∷ 0 ∷ 0 ∷ [])) ≡ true)
+    × (badState (boarded 1 0 (0 ∷ 0 ∷ 0 ∷ []) (0 ∷ 0 ∷ 0 ∷ [])) ≡ false)
+    × (badState (boarded 1 1 (0 ∷ 0 ∷ 0 ∷ []) (0 ∷ 0 ∷ 0 ∷ [])) ≡ true)
+    × (badState (boarded 9 0 (0 ∷ 0 ∷ 0 ∷ []) (0 ∷ 0 ∷ 0 ∷ [])) ≡ true)
+    × (badState (boarded 8 7 (0 ∷ 0 ∷ 0 ∷ []) (0 ∷ 0 ∷ 0 ∷ [])) ≡ false)
+    × (badState (boarded 3 0 (1 ∷ 2 ∷ 1 ∷ []) (5 ∷ 5 ∷ 6 ∷ [])) ≡ true)
+    × (badState (boarded 2 0 (1 ∷ 2 ∷ 1 ∷ []) (5 ∷ 5 ∷ 6 ∷ [])) ≡ false)
+    × (badState (boarded 3 0 (1 ∷ 2 ∷ 1 ∷ []) (5 ∷ 6 ∷ 5 ∷ [])) ≡ false)
 unfolding badState badFields badBoard domainsAgree el2Enabled securityOf every
 bad = (refl, refl, refl, refl, refl, refl, refl, refl, refl, refl, refl, refl, refl, refl, refl, refl, refl)
 
@@ -239,11 +154,12 @@ abbrev who : Decoded → State → ℕ × Bool × Bool × Bool
 who (Known op) st = whoOn (accessOf st op)
 who Unknown st = whoOn Undefined
 
+-- at EL3 with EL2 enabled, and the same with {E2H, TGE} 11
 abbrev high : State
-high = state 3 true true (features false false true true) (scr true false false false false) noHcr (hcrx false false) false
+high = at 3 (two ∷ three ∷ NS ∷ [])
 
 abbrev hosted : State
-hosted = state 3 true true (features false false true true) (scr true false false false false) (hcr true true false false false false) (hcrx false false) false
+hosted = at 3 (two ∷ three ∷ NS ∷ E2H ∷ TGE ∷ [])
 
 -- local, IS and OS, none of them at or above the count; the ASID of E2 names hangs on E2H
 pub reach :
@@ -254,6 +170,7 @@ pub reach :
     × (who (readOf 0xD50886A0) hosted ≡ (2, true, true, false))
     × (who (readOf 0xD50886E0) hosted ≡ (2, false, true, false))
     × (who (readOf 0xD50C8620) high ≡ (2, false, false, false))
+    × (who (readOf 0xD50C8620) hosted ≡ (2, true, false, false))
     × (who (readOf 0xD50C86A0) hosted ≡ (2, true, true, false))
     × (who (readOf 0xD50C86A0) high ≡ (2, false, true, false))
     × (who (readOf 0xD50E86A0) hosted ≡ (2, false, true, false))
@@ -261,7 +178,7 @@ pub reach :
     × (who (readOf 0xD50C8040) high ≡ (3, false, false, true))
     × (who (readOf 0xD50C84E0) high ≡ (7, false, true, true))
 unfolding readOf rowOf accessOf isBarred accessE1 accessE2 accessE3 accessStage2 scopeOf el2Enabled securityOf reachedOf reaches maskFrom
-reach = (refl, refl, refl, refl, refl, refl, refl, refl, refl, refl, refl, refl, refl)
+reach = (refl, refl, refl, refl, refl, refl, refl, refl, refl, refl, refl, refl, refl, refl)
 
 -- twelve flags, of which number k alone is set
 abbrev flagsFrom : ℕ → ℕ → Flags
@@ -286,38 +203,14 @@ pub flags : (k : ℕ) →
     × (trapFlag (trapsOf k) RVAALE1 Outer ≡ eqb k 11)
 flags k = (refl, refl, refl, refl, refl, refl, refl, refl, refl, refl, refl, refl)
 
--- DS number k alone is set: EL1's, EL2's, EL3's, stage 2's
-abbrev dsAt : Bool → ℕ → State
-dsAt lpa2 k = record {
-  el = 2;
-  present = record { el2 = true; el3 = false };
-  features = record {
-    tlbirange = true;
-    tlbios = false;
-    d128 = false;
-    xs = false;
-    lpa2 = lpa2;
-    rme = false;
-    sel2 = false;
-    fgt = false;
-    hcx = false;
-  };
-  scr = noScr;
-  hcr = hcr true true false false false false;
-  hcrx = hcrx false false;
-  traps = trapsOf 12;
-  ds = record { el1 = eqb k 0; el2 = eqb k 1; el3 = eqb k 2; stage2 = eqb k 3 };
-  vmid = 7;
-  board = board;
-}
-
--- the DS of the regime that is acted on, with LPA2; RVAAE1IS on EL2&0 reads EL2's
-pub units : (lpa2 : Bool) (k : ℕ) →
-    (isUnit64K (dsAt lpa2 k) EL10 false ≡ (lpa2 && eqb k 0))
-    × (isUnit64K (dsAt lpa2 k) EL20 false ≡ (lpa2 && eqb k 1))
-    × (isUnit64K (dsAt lpa2 k) EL2 false ≡ (lpa2 && eqb k 1))
-    × (isUnit64K (dsAt lpa2 k) EL3 false ≡ (lpa2 && eqb k 2))
-    × (isUnit64K (dsAt lpa2 k) EL10 true ≡ (lpa2 && eqb k 3))
-    × (ran (readOf 0xD5088260) (dsAt lpa2 k) ≡ (EL20, NonSecure, 0, false))
+-- the DS of the regime that is acted on, with LPA2 and without; RVAAE1IS at EL2 with {E2H, TGE} 11 acts on EL2&0 and so reads EL2's
+pub units : (k : ℕ) →
+    (isUnit64K (hostWithDs k []) EL10 false ≡ eqb k 0)
+    × (isUnit64K (hostWithDs k []) EL20 false ≡ eqb k 1)
+    × (isUnit64K (hostWithDs k []) EL2 false ≡ eqb k 1)
+    × (isUnit64K (hostWithDs k []) EL3 false ≡ eqb k 2)
+    × (isUnit64K (hostWithDs k []) EL10 true ≡ eqb k 3)
+    × (isUnit64K (hostWithDs k (noLpa2 ∷ [])) EL20 false ≡ false)
+    × (ran (readOf 0xD5088260) (hostWithDs k []) ≡ (EL20, NonSecure, 0, false))
 unfolding isUnit64K readOf rowOf accessOf isBarred accessE1 scopeOf el2Enabled securityOf securityIn vmidIn
-units lpa2 k = (refl, refl, refl, refl, refl, refl)
+units k = (refl, refl, refl, refl, refl, refl, refl)

@@ -1,9 +1,8 @@
 // The board: how many processors there are, and whether their domains agree.
 ghost use mathlib.Core.Path.{_≡_};
-ghost use Prim.Native.Nat.{_≤_};
 ghost use lib.ListN.{getD};
 ghost use Rattle.laws.specs.Every.{every};
-ghost use Rattle.machine.specs.State.{innerOf, outerOf, agree, domainsAgree, badBoard};
+ghost use Rattle.machine.specs.State.{agree, domainsAgree, badBoard};
 use machine::Board;
 
 pub fn is_bad_board(board: Board) -> bool
@@ -49,20 +48,16 @@ fn agrees_with_all(board: Board, p: u8) -> bool
 fn agrees(board: Board, p: u8, q: u8) -> bool
     ensures { λ r. ⌜ r ≡ agree board p q ⌝ }
 {
-    let inner = inner_of(board, p) == inner_of(board, q);
-    let outer = outer_of(board, p) == outer_of(board, q);
-    !inner | outer
+    let inner = board.inner;
+    let outer = board.outer;
+    let same_inner = domain_at(inner, p) == domain_at(inner, q);
+    let same_outer = domain_at(outer, p) == domain_at(outer, q);
+    !same_inner | same_outer
 }
 
 // A number past the last has domain 0, so that any number gets an answer.
-pub fn inner_of(board: Board, p: u8) -> u8
-    ensures { λ r. ⌜ r ≡ innerOf board p ⌝ }
+pub fn domain_at(domains: [u8; 8], p: u8) -> u8
+    ensures { λ r. ⌜ r ≡ getD domains p 0 ⌝ }
 {
-    if p < 8 { board.inner[p as usize] } else { 0 }
-}
-
-pub fn outer_of(board: Board, p: u8) -> u8
-    ensures { λ r. ⌜ r ≡ outerOf board p ⌝ }
-{
-    if p < 8 { board.outer[p as usize] } else { 0 }
+    if p < 8 { domains[p as usize] } else { 0 }
 }

@@ -1,22 +1,18 @@
-// The access decision: whether an operation runs in a state, and on what.
+// The access decision: whether an operation runs in a state, by its family.
 ghost use mathlib.Core.Path.{_≡_};
 ghost use mathlib.Core.Bool.{cond, _&&_};
 ghost use Rattle.machine.specs.State.{e2hOf, tgeOf};
-ghost use Rattle.machine.specs.Access.{isHost, usesAsid, hasL, scopeOf, actsNxs, accessE1, accessNv, accessE2, accessStage2, accessE3, accessOf};
-use crate::level::el2_enabled;
-use crate::level::hcrx_live;
-use crate::level::security_in;
-use crate::level::vmid_in;
-use crate::reach::reached_by;
+ghost use Rattle.machine.specs.Access.{actsNxs, accessE1, accessNv, accessE2, accessStage2, accessE3, accessOf};
+use crate::el2::el2_enabled;
+use crate::el2::hcrx_live;
+use crate::scope::scope_of;
 use crate::trap::is_barred;
 use crate::trap::is_trapped;
 use crate::trap::trap;
 use machine::Access;
 use machine::Family;
-use machine::Name;
 use machine::Operation;
 use machine::Regime;
-use machine::Scope;
 use machine::State;
 use words::family_of;
 
@@ -68,16 +64,6 @@ fn host_regime(state: State) -> Regime
     }
 }
 
-fn access_nv(state: State, op: Operation) -> Access
-    ensures { λ r. ⌜ r ≡ accessNv state op ⌝ }
-{
-    if el2_enabled(state) & state.hcr.nv {
-        trap(op)
-    } else {
-        Access::Undefined
-    }
-}
-
 fn access_e2(state: State, op: Operation) -> Access
     ensures { λ r. ⌜ r ≡ accessE2 state op ⌝ }
 {
@@ -114,6 +100,16 @@ fn access_stage2(state: State, op: Operation) -> Access
     }
 }
 
+fn access_nv(state: State, op: Operation) -> Access
+    ensures { λ r. ⌜ r ≡ accessNv state op ⌝ }
+{
+    if el2_enabled(state) & state.hcr.nv {
+        trap(op)
+    } else {
+        Access::Undefined
+    }
+}
+
 fn access_e3(state: State, op: Operation) -> Access
     ensures { λ r. ⌜ r ≡ accessE3 state op ⌝ }
 {
@@ -121,66 +117,5 @@ fn access_e3(state: State, op: Operation) -> Access
         Access::Undefined
     } else {
         Access::Runs(scope_of(state, op, Regime::EL3, false, op.nxs))
-    }
-}
-
-fn scope_of(state: State, op: Operation, regime: Regime, stage2: bool, nxs: bool) -> Scope
-    ensures { λ r. ⌜ r ≡ scopeOf state op regime stage2 nxs ⌝ }
-{
-    let name = op.name;
-    Scope {
-        regime,
-        security: security_in(state, regime),
-        vmid: vmid_in(state, regime),
-        stage2,
-        reached: reached_by(state, op),
-        asid: uses_asid(name, regime),
-        last: has_l(name),
-        nxs,
-    }
-}
-
-fn uses_asid(name: Name, regime: Regime) -> bool
-    ensures { λ r. ⌜ r ≡ usesAsid name regime ⌝ }
-{
-    match name {
-        Name::RVAE1 => true,
-        Name::RVAAE1 => false,
-        Name::RVALE1 => true,
-        Name::RVAALE1 => false,
-        Name::RVAE2 => is_host(regime),
-        Name::RVALE2 => is_host(regime),
-        Name::RVAE3 => false,
-        Name::RVALE3 => false,
-        Name::RIPAS2E1 => false,
-        Name::RIPAS2LE1 => false,
-    }
-}
-
-fn is_host(regime: Regime) -> bool
-    ensures { λ r. ⌜ r ≡ isHost regime ⌝ }
-{
-    match regime {
-        Regime::EL10 => false,
-        Regime::EL20 => true,
-        Regime::EL2 => false,
-        Regime::EL3 => false,
-    }
-}
-
-fn has_l(name: Name) -> bool
-    ensures { λ r. ⌜ r ≡ hasL name ⌝ }
-{
-    match name {
-        Name::RVAE1 => false,
-        Name::RVAAE1 => false,
-        Name::RVALE1 => true,
-        Name::RVAALE1 => true,
-        Name::RVAE2 => false,
-        Name::RVALE2 => true,
-        Name::RVAE3 => false,
-        Name::RVALE3 => true,
-        Name::RIPAS2E1 => false,
-        Name::RIPAS2LE1 => true,
     }
 }

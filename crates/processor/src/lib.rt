@@ -1,13 +1,16 @@
 // The processor state: its check, what follows from its fields, and the access rules.
 mod board;
+mod check;
 mod decision;
-mod field;
-mod level;
+mod el2;
 mod reach;
+mod scope;
+mod security;
 mod trap;
+mod unit;
 
+pub use check::is_bad;
 pub use decision::decide;
-pub use field::is_unit_64k;
-pub use level::is_bad;
-pub use level::security_in;
-pub use level::vmid_in;
+pub use el2::vmid_in;
+pub use security::security_in;
+pub use unit::is_unit_64k;

@@ -3,8 +3,7 @@ ghost use mathlib.Core.Path.{_≡_};
 ghost use mathlib.Core.Bool.{cond};
 ghost use Prim.Native.Nat.{_≤_};
 ghost use Rattle.machine.specs.Access.{reachesBy, reaches, reachedOf};
-use crate::board::inner_of;
-use crate::board::outer_of;
+use crate::board::domain_at;
 use machine::Board;
 use machine::Operation;
 use machine::Share;
@@ -41,9 +40,11 @@ fn reaches_by(share: Share, board: Board, p: u8) -> bool
     ensures { λ r. ⌜ r ≡ reachesBy share board p ⌝ }
 {
     let own = board.own;
+    let inner = board.inner;
+    let outer = board.outer;
     match share {
         Share::Local => p == own,
-        Share::Inner => inner_of(board, p) == inner_of(board, own),
-        Share::Outer => outer_of(board, p) == outer_of(board, own),
+        Share::Inner => domain_at(inner, p) == domain_at(inner, own),
+        Share::Outer => domain_at(outer, p) == domain_at(outer, own),
     }
 }

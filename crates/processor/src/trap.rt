@@ -1,8 +1,8 @@
 // What bars an operation, and what traps it to EL2.
 ghost use mathlib.Core.Path.{_≡_};
 ghost use Rattle.machine.specs.Access.{isInner, isOuter, isAbsent, isBarred, flagOf, trapFlag, trapsFine, isTrapped, trapped};
-use crate::level::el2_enabled;
-use crate::level::hcrx_live;
+use crate::el2::el2_enabled;
+use crate::el2::hcrx_live;
 use machine::Access;
 use machine::Flags;
 use machine::Name;

@@ -3,22 +3,27 @@ use borrow.Author.Needs.{needs}
 use Rattle.processor.proofs.board.agrees.Statement.{statement}
 use Rattle.processor.proofs.board.agrees.Tie as tie
 
-inner-of-requires : tie.Need-inner-of-requires
-inner-of-requires c κs = search needs
+domain-at-requires : tie.Need-domain-at-requires
+domain-at-requires c κs = search needs
 
-inner-of-requires-2 : tie.Need-inner-of-requires-2
-inner-of-requires-2 c κs = search needs
+domain-at-requires-2 : tie.Need-domain-at-requires-2
+domain-at-requires-2 c κs = search needs
 
-outer-of-requires : tie.Need-outer-of-requires
-outer-of-requires c κs = search needs
+domain-at-requires-3 : tie.Need-domain-at-requires-3
+domain-at-requires-3 c κs = search needs
 
-outer-of-requires-2 : tie.Need-outer-of-requires-2
-outer-of-requires-2 c κs = search needs
+domain-at-requires-4 : tie.Need-domain-at-requires-4
+domain-at-requires-4 c κs = search needs
 
 returns : tie.Need-returns
-returns c = simp (c .outer-of2 .ensures, c .before .outer-of .ensures, c .before .before .inner-of2 .ensures, c .before .before .before .inner-of .ensures)
+returns c = simp (c .domain-at4 .ensures, c .before .domain-at3 .ensures, c .before .before .domain-at2 .ensures, c .before .before .before .domain-at .ensures)
 
 pub agrees-spec : {M : Type 1} → statement M
 agrees-spec =
     tie.close
-    (tie.spec inner-of-requires inner-of-requires-2 outer-of-requires outer-of-requires-2 returns)
+    (tie.spec
+    domain-at-requires
+    domain-at-requires-2
+    domain-at-requires-3
+    domain-at-requires-4
+    returns)
