@@ -2,3 +2,5 @@
 pub mod Truth
 pub mod Every
 pub mod Mask
+pub mod Bits
+pub mod Aligned

@@ -1,3 +1,4 @@
 -- Definitions of the laws' own.
 pub mod Every
 pub mod Mask
+pub mod Bits

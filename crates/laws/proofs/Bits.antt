@@ -1,0 +1,83 @@
+-- A word by its bits: masks of them in parts.
+use Prim.Native.Nat.{ℕ, zero, suc, _+_, _*_, _/_, _%_, _^_, _<_, _≤_}
+use mathlib.Core.Bool.{Bool, true, false, cond, _&&_}
+use mathlib.Core.Path.{_≡_, refl, sym, ap, ap₂, _∙_}
+use native.Mathlib.Nat.{pow-succ', mul-assoc, mod-lt}
+use native.Mathlib.Omega.{arith}
+use lib.Dec.{eqb}
+use lib.Pow.{mod-pow-add, shr-shr}
+use Rattle.laws.specs.Mask.{bitOf, maskFrom}
+
+-- a mask of n and then m numbers
+pub mask-cut : (f : ℕ → Bool) (p n m : ℕ) → maskFrom f p (n + m) ≡ maskFrom f p n + 2 ^ n * maskFrom f (p + n) m
+unfolding maskFrom
+mask-cut f p zero m =
+    let z : zero + m ≡ m = omega arith in
+    let e : p ≡ p + zero = omega arith in
+    ap (maskFrom f p) z ∙ ap (λ (q : ℕ). maskFrom f q m) e ∙ one (maskFrom f (p + zero) m)
+  where
+    one : (x : ℕ) → x ≡ 0 + 1 * x
+    one x = omega arith
+mask-cut f p (suc n) m =
+    let e : suc n + m ≡ suc (n + m) = omega arith in
+    let i : suc p + n ≡ p + suc n = omega arith in
+    ap (maskFrom f p) e
+    ∙ ap (λ (x : ℕ). cond (f p) 1 0 + 2 * x) (mask-cut f (suc p) n m ∙ ap (λ (q : ℕ). maskFrom f (suc p) n + 2 ^ n * maskFrom f q m) i)
+    ∙ more (cond (f p) 1 0) (maskFrom f (suc p) n) (maskFrom f (p + suc n) m)
+  where
+    more : (a x y : ℕ) → a + 2 * (x + 2 ^ n * y) ≡ a + 2 * x + 2 ^ suc n * y
+    more a x y = let h : 2 ^ suc n * y ≡ 2 * (2 ^ n * y) = ap (λ (k : ℕ). k * y) (pow-succ' 2 n) ∙ mul-assoc 2 (2 ^ n) y in omega arith
+
+-- tests that agree at the numbers of a mask give one mask
+pub mask-within : (f g : ℕ → Bool) (p n : ℕ) → ((k : ℕ) → p ≤ k → k < p + n → f k ≡ g k) → maskFrom f p n ≡ maskFrom g p n
+unfolding maskFrom
+mask-within f g p zero h = refl
+mask-within f g p (suc n) h =
+    let first : f p ≡ g p = h p (omega arith) (omega arith) in
+    let rest : maskFrom f (suc p) n ≡ maskFrom g (suc p) n =
+    mask-within f g (suc p) n (λ (k : ℕ) (l : suc p ≤ k) (u : k < suc p + n). h k (omega arith) (omega arith)) in
+    ap₂ (λ (b : Bool) (m : ℕ). cond b 1 0 + 2 * m) first rest
+
+-- the bits of x from p on, n of them, are their own mask
+pub mask-bits : (x p n : ℕ) → maskFrom (bitOf x) p n ≡ x / 2 ^ p % 2 ^ n
+unfolding maskFrom
+mask-bits x p zero = let h : x / 2 ^ p % 1 < 1 = mod-lt (x / 2 ^ p) (omega arith) in omega arith
+mask-bits x p (suc n) =
+    let y : ℕ = x / 2 ^ p in
+    let e : suc n ≡ n + 1 = omega arith in
+    let s : x / 2 ^ (p + 1) ≡ y / 2 ^ 1 = sym (shr-shr x p 1) in
+    let i : suc p ≡ p + 1 = omega arith in
+    let r : maskFrom (bitOf x) (suc p) n ≡ y / 2 ^ 1 % 2 ^ n = mask-bits x (suc p) n ∙ ap (λ (k : ℕ). x / 2 ^ k % 2 ^ n) i ∙ ap (λ (k : ℕ). k % 2 ^ n) s in
+    ap₂ (λ (a b : ℕ). a + 2 * b) (lowest y) r
+    ∙ swap (y % 2 ^ 1) (y / 2 ^ 1 % 2 ^ n)
+    ∙ sym (mod-pow-add y n 1)
+    ∙ ap (λ (k : ℕ). y % 2 ^ k) (sym e)
+  where
+    lowest : (z : ℕ) → cond (eqb (z % 2) 1) 1 0 ≡ z % 2 ^ 1
+    lowest z = go (z % 2) (mod-lt z (omega arith))
+      where
+        go : (m : ℕ) → m < 2 → cond (eqb m 1) 1 0 ≡ m
+        go zero h = refl
+        go (suc zero) h = refl
+        go (suc (suc m)) h = absurd (omega arith)
+
+    swap : (a b : ℕ) → a + 2 * b ≡ b * 2 ^ 1 + a
+    swap a b = omega arith
+
+-- they stay or are cleared together
+pub mask-if : (x p n : ℕ) (b : Bool) → maskFrom (λ i. bitOf x i && b) p n ≡ cond b (x / 2 ^ p % 2 ^ n) 0
+unfolding maskFrom
+mask-if x p n true = mask-within (λ (i : ℕ). bitOf x i && true) (bitOf x) p n (λ (k : ℕ) (l : p ≤ k) (u : k < p + n). stay (bitOf x k)) ∙ mask-bits x p n
+  where
+    stay : (c : Bool) → (c && true) ≡ c
+    stay true = refl
+    stay false = refl
+mask-if x p n false = mask-within (λ (i : ℕ). bitOf x i && false) (λ (i : ℕ). false) p n (λ (k : ℕ) (l : p ≤ k) (u : k < p + n). go (bitOf x k)) ∙ zeros p n
+  where
+    go : (c : Bool) → (c && false) ≡ false
+    go true = refl
+    go false = refl
+
+    zeros : (p n : ℕ) → maskFrom (λ i. false) p n ≡ 0
+    zeros p zero = refl
+    zeros p (suc n) = ap (λ (m : ℕ). 0 + 2 * m) (zeros (suc p) n)
