@@ -3,8 +3,11 @@ pub mod Rows
 pub mod Trip
 pub mod State
 pub mod Reach
+pub mod Fields
+pub mod Spans
 pub mod Alike
 pub mod Pages
 pub mod Sample
 pub mod Rights
+pub mod Ranges
 pub mod Example

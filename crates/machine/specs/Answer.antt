@@ -1,5 +1,11 @@
 -- 01, "Answer numbers": the number and the value of each case of an answer.
 use Prim.Native.Nat.{ℕ}
+use Rattle.machine.specs.declared.operand.OperandRead.{OperandRead}
+use Rattle.machine.specs.declared.operand.OperandRead.the-variants as read
+use Rattle.machine.specs.declared.operand.OperandWritten.{OperandWritten}
+use Rattle.machine.specs.declared.operand.OperandWritten.the-variants.{Words, Refused}
+use Rattle.machine.specs.declared.operand.Ranged.{Ranged}
+use Rattle.machine.specs.declared.operand.Ranged.the-variants as ranged
 use Rattle.machine.specs.declared.scope.Access.{Access}
 use Rattle.machine.specs.declared.scope.Access.the-variants.{Undefined, Trapped, NoEffect, Runs}
 
@@ -16,3 +22,18 @@ accessValue Undefined = 0
 accessValue (Trapped v) = v
 accessValue NoEffect = 0
 accessValue (Runs s) = 0
+
+-- "Operand reader: 6; writer: 8."
+abbrev pub readNumber : OperandRead → ℕ
+readNumber (read.Fields o) = 0
+readNumber read.NoGranule = 6
+
+abbrev pub writtenNumber : OperandWritten → ℕ
+writtenNumber (Words xt xt2) = 0
+writtenNumber Refused = 8
+
+-- "6 TG is 00", "7 range is UNPREDICTABLE"; 0 says only that the operand refuses nothing
+abbrev pub rangedNumber : Ranged → ℕ
+rangedNumber (ranged.Covers o r) = 0
+rangedNumber ranged.NoGranule = 6
+rangedNumber ranged.Unpredictable = 7

@@ -2,6 +2,10 @@
 pub mod Word
 pub mod State
 pub mod Access
+pub mod Operand
+pub mod Span
+pub mod Range
+pub mod Asked
 pub mod Answer
 pub mod Pages
 pub mod Text

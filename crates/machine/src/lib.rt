@@ -1,8 +1,16 @@
-// The book's plain types: an operation, the processor state, and what reading a word and the access rules answer.
+// The book's plain types: an operation, the processor state, an operand, and what reading them and the access rules answer.
+mod operand;
 mod operation;
 mod processor;
 mod scope;
 
+pub use operand::Form;
+pub use operand::Operand;
+pub use operand::OperandRead;
+pub use operand::OperandWritten;
+pub use operand::Range;
+pub use operand::Ranged;
+pub use operand::Told;
 pub use operation::Built;
 pub use operation::Decoded;
 pub use operation::Family;

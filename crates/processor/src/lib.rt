@@ -12,5 +12,6 @@ mod unit;
 pub use check::is_bad;
 pub use decision::decide;
 pub use el2::vmid_in;
+pub use security::is_secure;
 pub use security::security_in;
 pub use unit::is_unit_64k;
