@@ -1,0 +1,49 @@
+// How long a range is, and where it ends.
+ghost use Prim.Native.Nat.{_+_, _*_, _^_, _≤_, _<_};
+ghost use mathlib.Core.Path.{_≡_};
+ghost use Rattle.machine.specs.Operand.{granuleOf, Within};
+ghost use Rattle.machine.specs.Range.{lengthOf, lastOf};
+use machine::Operand;
+
+fn granules(num: u64, scale: u64) -> u64
+    requires { ⌜ (num < 32) × (scale < 4) ⌝ }
+    ensures { λ r. ⌜ (r ≡ (num + 1) * 2 ^ (5 * scale + 1)) × (1 ≤ r) × (r ≤ 2097152) ⌝ }
+{
+    match scale {
+        0 => (num + 1) * 2,
+        1 => (num + 1) * 64,
+        2 => (num + 1) * 2048,
+        _ => (num + 1) * 65536,
+    }
+}
+
+fn bytes(tg: u64, granules: u64) -> u64
+    requires { ⌜ (1 ≤ tg) × (tg < 4) × (1 ≤ granules) × (granules ≤ 2097152) ⌝ }
+    ensures { λ r. ⌜ (r ≡ granules * 2 ^ granuleOf tg) × (1 ≤ r) ⌝ }
+{
+    match tg {
+        1 => granules * 4096,
+        2 => granules * 16384,
+        _ => granules * 65536,
+    }
+}
+
+pub fn length_of(o: Operand) -> u64
+    requires { ⌜ Within o ⌝ }
+    ensures { λ r. ⌜ (r ≡ lengthOf o) × (1 ≤ r) ⌝ }
+{
+    let n = granules(o.num, o.scale);
+    bytes(o.tg, n)
+}
+
+pub fn last_of(first: u64, length: u64) -> u64
+    requires { ⌜ 1 ≤ length ⌝ }
+    ensures { λ r. ⌜ r ≡ lastOf first length ⌝ }
+{
+    let room = 18446744073709551615 - first;
+    if length <= room {
+        first + (length - 1)
+    } else {
+        18446744073709551615
+    }
+}

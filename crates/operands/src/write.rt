@@ -1,0 +1,103 @@
+// The writer of operands.
+ghost use Prim.Native.Nat.{_+_, _*_, _^_, _≤_, _<_};
+ghost use mathlib.Core.Bool.{true, cond};
+ghost use mathlib.Core.Path.{_≡_};
+ghost use Rattle.machine.specs.Operand.{fits, isShown, isWritable, xtOf, xt2Of, wordsOf};
+use crate::base::address_of;
+use crate::base::field_of;
+use crate::form::has_asid;
+use crate::form::has_ns;
+use crate::hint::is_no_hint;
+use machine::Operand;
+use machine::OperandWritten;
+use machine::Told;
+
+fn asid_fits(has: bool, asid: u64) -> bool
+    ensures { λ r. ⌜ r ≡ fits has 16 asid ⌝ }
+{
+    if has { asid < 65536 } else { asid == 0 }
+}
+
+fn ns_fits(has: bool, ns: u64) -> bool
+    ensures { λ r. ⌜ r ≡ fits has 1 ns ⌝ }
+{
+    if has { ns < 2 } else { ns == 0 }
+}
+
+fn is_shown(told: Told, tg: u64, base: u64) -> bool
+    requires { ⌜ (1 ≤ tg) × (tg < 4) ⌝ }
+    ensures { λ r. ⌜ r ≡ isShown told tg base ⌝ }
+{
+    let field = field_of(told, tg, base);
+    address_of(told, tg, field) == base
+}
+
+fn is_writable(told: Told, o: Operand) -> bool
+    ensures { λ r. ⌜ r ≡ isWritable told o ⌝ }
+{
+    let tg = o.tg;
+    if 4 <= tg {
+        return false;
+    }
+    if tg == 0 {
+        return false;
+    }
+    let form = told.form;
+    let asid = asid_fits(has_asid(form), o.asid);
+    let ns = ns_fits(has_ns(form), o.ns);
+    let no_hint = is_no_hint(told.lpa2, tg, o.ttl);
+    let shown = is_shown(told, tg, o.base);
+    (o.scale < 4) & (o.num < 32) & (o.ttl < 4) & asid & ns & !no_hint & shown
+}
+
+fn joined(ns: u64, asid: u64, tg: u64, scale: u64, num: u64, ttl: u64, low: u64) -> u64
+    requires { ⌜ (ns * 2 ^ 15 + asid < 2 ^ 16) × (tg < 4) × (scale < 4) × (num < 32) × (ttl < 4) × (low < 2 ^ 37) ⌝ }
+    ensures { λ r. ⌜ r ≡ ns * 2 ^ 63 + asid * 2 ^ 48 + tg * 2 ^ 46 + scale * 2 ^ 44 + num * 2 ^ 39 + ttl * 2 ^ 37 + low ⌝ }
+{
+    ns * 9223372036854775808
+        + asid * 281474976710656
+        + tg * 70368744177664
+        + scale * 17592186044416
+        + num * 549755813888
+        + ttl * 137438953472
+        + low
+}
+
+fn low_of(tlbip: bool, field: u64) -> u64
+    requires { ⌜ field < 2 ^ cond tlbip 44 37 ⌝ }
+    ensures { λ r. ⌜ (r ≡ cond tlbip 0 field) × (r < 2 ^ 37) ⌝ }
+{
+    if tlbip { 0 } else { field }
+}
+
+fn xt_of(told: Told, o: Operand) -> u64
+    requires { ⌜ isWritable told o ≡ true ⌝ }
+    ensures { λ r. ⌜ r ≡ xtOf told o ⌝ }
+{
+    let field = field_of(told, o.tg, o.base);
+    let low = low_of(told.tlbip, field);
+    joined(o.ns, o.asid, o.tg, o.scale, o.num, o.ttl, low)
+}
+
+fn xt2_of(told: Told, o: Operand) -> u64
+    requires { ⌜ isWritable told o ≡ true ⌝ }
+    ensures { λ r. ⌜ r ≡ xt2Of told o ⌝ }
+{
+    if told.tlbip {
+        field_of(told, o.tg, o.base)
+    } else {
+        0
+    }
+}
+
+pub fn write_operand(told: Told, o: Operand) -> OperandWritten
+    ensures { λ r. ⌜ r ≡ wordsOf told o ⌝ }
+{
+    if is_writable(told, o) {
+        let xt = xt_of(told, o);
+        let xt2 = xt2_of(told, o);
+        OperandWritten::Words(xt, xt2)
+    } else {
+        OperandWritten::Refused
+    }
+}

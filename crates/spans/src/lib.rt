@@ -1,0 +1,14 @@
+// Levels, their spans, and what a span meets.
+mod exponent;
+mod level;
+mod span;
+
+pub use exponent::exponent_at;
+pub use exponent::exponent_of;
+pub use exponent::has_span;
+pub use level::height_of;
+pub use level::is_level;
+pub use span::in_span;
+pub use span::is_multiple;
+pub use span::meets;
+pub use span::size;
