@@ -8,11 +8,11 @@ use lib.Dec.{eqb, ltb, leb}
 use lib.Pow.{shl-shr, high-ones, pow-add, split, field}
 use borrow.Author.Tests.{eq-eqb, ne-eqb, le-leb, lt-leb, le-ltb, eqb-true, ltb-true, lt-ltb, not-true}
 use Rattle.laws.proofs.Bits.{mask-cut, mask-within, mask-if}
-use Rattle.laws.proofs.Mask.{mask-bit}
+use Rattle.laws.proofs.Mask.{mask-below, mask-bit}
 use Rattle.laws.proofs.Truth.{and-0, and-1}
 use Rattle.laws.specs.Bits.{bits, down}
 use Rattle.laws.specs.Mask.{bitOf, maskFrom}
-use Rattle.machine.specs.Operand.{hasAsid, hasNs, copiesTop, granuleOf, unitOf, extend, addressOf, isNoHint, hintOf, asidIn, nsIn, tgIn, scaleIn, numIn, ttlIn, baseIn, fieldsIn, Within, operandOf, fieldOf, isShown, fits, isWritable, xtOf, xt2Of, wordsOf, staysXt, staysXt2, cleared}
+use Rattle.machine.specs.Operand.{hasAsid, hasNs, copiesTop, granuleExponent, unitExponent, extend, addressOf, readsAsZero, hintOf, asidIn, nsIn, tgIn, scaleIn, numIn, ttlIn, baseIn, fieldsIn, Within, operandOf, fieldOf, isShown, fits, isWritable, xtOf, xt2Of, wordsOf, staysXt, staysXt2, cleared}
 use Rattle.machine.specs.declared.operand.Form.{Form}
 use Rattle.machine.specs.declared.operand.Form.the-variants.{TwoRangesAsid, TwoRanges, OneRange, Stage2Ns, Stage2NoNs}
 use Rattle.machine.specs.declared.operand.Operand.{Operand}
@@ -48,7 +48,7 @@ field-back n k s b h u =
     ∙ mod-eq-of-lt u
 
 -- TG 1, 2 or 3
-abbrev IsGranule : ℕ → Type 0
+abbrev pub IsGranule : ℕ → Type 0
 IsGranule tg = (1 ≤ tg) × (tg < 4)
 
 -- the number of bits of a base field, and the field without what is ignored
@@ -56,15 +56,15 @@ abbrev pub widthOf : Bool → ℕ
 widthOf tlbip = cond tlbip 44 37
 
 abbrev keptOf : Bool → ℕ → ℕ → ℕ
-keptOf tlbip tg b = cond tlbip (down (granuleOf tg - 12) b) b
+keptOf tlbip tg b = cond tlbip (down (granuleExponent tg - 12) b) b
 
-down-twice : (tg b : ℕ) → IsGranule tg → down (granuleOf tg - 12) (down (granuleOf tg - 12) b) ≡ down (granuleOf tg - 12) b
-down-twice tg b g = ap (λ (m : ℕ). m * 2 ^ (granuleOf tg - 12)) (shl-shr (b / 2 ^ (granuleOf tg - 12)) (granuleOf tg - 12))
+down-twice : (tg b : ℕ) → IsGranule tg → down (granuleExponent tg - 12) (down (granuleExponent tg - 12) b) ≡ down (granuleExponent tg - 12) b
+down-twice tg b g = ap (λ (m : ℕ). m * 2 ^ (granuleExponent tg - 12)) (shl-shr (b / 2 ^ (granuleExponent tg - 12)) (granuleExponent tg - 12))
 
-down-le : (k b : ℕ) → down k b ≤ b
+pub down-le : (k b : ℕ) → down k b ≤ b
 down-le k b = omega (arith, split b k)
 
-unit-most : (u : Bool) (tg : ℕ) → IsGranule tg → 37 + unitOf u tg ≤ 64
+pub unit-most : (u : Bool) (tg : ℕ) → IsGranule tg → 37 + unitExponent u tg ≤ 64
 unit-most true tg g = omega arith
 unit-most false tg g = omega arith
 
@@ -75,21 +75,21 @@ field-read t tg b g h = go (t .tlbip) h
   where
     go : (p : Bool) → b < 2 ^ widthOf p →
         cond p
-        (cond p (extend 44 12 (copiesTop (t .form)) (down (granuleOf tg - 12) b)) (extend 37 (unitOf (t .unit64k) tg) (copiesTop (t .form)) b) / 2 ^ 12 % 2 ^ 44)
-        (cond p (extend 44 12 (copiesTop (t .form)) (down (granuleOf tg - 12) b)) (extend 37 (unitOf (t .unit64k) tg) (copiesTop (t .form)) b) / 2 ^ unitOf (t .unit64k) tg % 2 ^ 37)
+        (cond p (extend 44 12 (copiesTop (t .form)) (down (granuleExponent tg - 12) b)) (extend 37 (unitExponent (t .unit64k) tg) (copiesTop (t .form)) b) / 2 ^ 12 % 2 ^ 44)
+        (cond p (extend 44 12 (copiesTop (t .form)) (down (granuleExponent tg - 12) b)) (extend 37 (unitExponent (t .unit64k) tg) (copiesTop (t .form)) b) / 2 ^ unitExponent (t .unit64k) tg % 2 ^ 37)
         ≡ keptOf p tg b
     go true h =
-        let l : down (granuleOf tg - 12) b < 2 ^ 44 = omega (arith, down-le (granuleOf tg - 12) b) in
-        field-back 44 12 (copiesTop (t .form)) (down (granuleOf tg - 12) b) (omega arith) l
-    go false h = field-back 37 (unitOf (t .unit64k) tg) (copiesTop (t .form)) b (unit-most (t .unit64k) tg g) h
+        let l : down (granuleExponent tg - 12) b < 2 ^ 44 = omega (arith, down-le (granuleExponent tg - 12) b) in
+        field-back 44 12 (copiesTop (t .form)) (down (granuleExponent tg - 12) b) (omega arith) l
+    go false h = field-back 37 (unitExponent (t .unit64k) tg) (copiesTop (t .form)) b (unit-most (t .unit64k) tg g) h
 
 kept-address : (t : Told) (tg b : ℕ) → IsGranule tg → addressOf t tg (keptOf (t .tlbip) tg b) ≡ addressOf t tg b
 unfolding addressOf
 kept-address t tg b g = go (t .tlbip)
   where
     go : (p : Bool) →
-        cond p (extend 44 12 (copiesTop (t .form)) (down (granuleOf tg - 12) (keptOf p tg b))) (extend 37 (unitOf (t .unit64k) tg) (copiesTop (t .form)) (keptOf p tg b))
-        ≡ cond p (extend 44 12 (copiesTop (t .form)) (down (granuleOf tg - 12) b)) (extend 37 (unitOf (t .unit64k) tg) (copiesTop (t .form)) b)
+        cond p (extend 44 12 (copiesTop (t .form)) (down (granuleExponent tg - 12) (keptOf p tg b))) (extend 37 (unitExponent (t .unit64k) tg) (copiesTop (t .form)) (keptOf p tg b))
+        ≡ cond p (extend 44 12 (copiesTop (t .form)) (down (granuleExponent tg - 12) b)) (extend 37 (unitExponent (t .unit64k) tg) (copiesTop (t .form)) b)
     go true = ap (extend 44 12 (copiesTop (t .form))) (down-twice tg b g)
     go false = refl
 
@@ -105,7 +105,7 @@ pub record Writable (t : Told) (o : Operand) : Type 0 where
   pub ttl : o .ttl < 4
   pub asid : fits (hasAsid (t .form)) 16 (o .asid) ≡ true
   pub ns : fits (hasNs (t .form)) 1 (o .ns) ≡ true
-  pub hint : isNoHint (t .lpa2) (o .tg) (o .ttl) ≡ false
+  pub hint : readsAsZero (t .lpa2) (o .tg) (o .ttl) ≡ false
   pub shown : addressOf t (o .tg) (fieldOf t (o .tg) (o .base)) ≡ o .base
 
 pub writable : (t : Told) (o : Operand) → isWritable t o ≡ true → Writable t o
@@ -118,7 +118,7 @@ writable t o h =
     let a5 : Bool = ltb (o .ttl) 4 in
     let a6 : Bool = fits (hasAsid (t .form)) 16 (o .asid) in
     let a7 : Bool = fits (hasNs (t .form)) 1 (o .ns) in
-    let a8 : Bool = not (isNoHint (t .lpa2) (o .tg) (o .ttl)) in
+    let a8 : Bool = not (readsAsZero (t .lpa2) (o .tg) (o .ttl)) in
     let h8 = and-0 (a1 && a2 && a3 && a4 && a5 && a6 && a7 && a8) _ h in
     let h7 = and-0 (a1 && a2 && a3 && a4 && a5 && a6 && a7) a8 h8 in
     let h6 = and-0 (a1 && a2 && a3 && a4 && a5 && a6) a7 h7 in
@@ -190,9 +190,9 @@ pub field-most : (t : Told) (tg a : ℕ) → fieldOf t tg a < 2 ^ widthOf (t .tl
 unfolding fieldOf
 field-most t tg a = go (t .tlbip)
   where
-    go : (p : Bool) → cond p (a / 2 ^ 12 % 2 ^ 44) (a / 2 ^ unitOf (t .unit64k) tg % 2 ^ 37) < 2 ^ widthOf p
+    go : (p : Bool) → cond p (a / 2 ^ 12 % 2 ^ 44) (a / 2 ^ unitExponent (t .unit64k) tg % 2 ^ 37) < 2 ^ widthOf p
     go true = mod-lt (a / 2 ^ 12) (omega arith)
-    go false = mod-lt (a / 2 ^ unitOf (t .unit64k) tg) (omega arith)
+    go false = mod-lt (a / 2 ^ unitExponent (t .unit64k) tg) (omega arith)
 
 low-most : (p : Bool) (b : ℕ) → b < 2 ^ widthOf p → cond p 0 b < 2 ^ 37
 low-most true b h = omega arith
@@ -202,11 +202,11 @@ base-place : (p : Bool) (xt b : ℕ) → b < 2 ^ widthOf p → bits 36 0 xt ≡ 
 base-place true xt b h e = omega arith
 base-place false xt b h e = e
 
-no-hint : (lpa2 : Bool) (tg ttl : ℕ) → isNoHint lpa2 tg ttl ≡ false → hintOf lpa2 tg ttl ≡ ttl
+hint-stays : (lpa2 : Bool) (tg ttl : ℕ) → readsAsZero lpa2 tg ttl ≡ false → hintOf lpa2 tg ttl ≡ ttl
 unfolding hintOf
-no-hint lpa2 tg ttl h = simp h
+hint-stays lpa2 tg ttl h = simp h
 
--- "reading one back gives the same fields": the words of fields that are not refused read as those fields
+-- the words of fields that are not refused read as those fields
 pub read-words : (t : Told) (o : Operand) → isWritable t o ≡ true → operandOf t (xtOf t o) (xt2Of t o) ≡ Fields o
 unfolding operandOf xtOf xt2Of
 read-words t o h =
@@ -219,7 +219,7 @@ read-words t o h =
     let a = asid-place (t .form) (o .ns) (o .asid) (o .tg) (o .scale) (o .num) (o .ttl) low (w .tg-most) (w .scale) (w .num) (w .ttl) l (w .asid) (w .ns) in
     let n = ns-place (t .form) (o .ns) (o .asid) (o .tg) (o .scale) (o .num) (o .ttl) low (w .tg-most) (w .scale) (w .num) (w .ttl) l (w .asid) (w .ns) in
     let e = base-place (t .tlbip) (word (o .ns) (o .asid) (o .tg) (o .scale) (o .num) (o .ttl) low) b most (p .low-place) in
-    simp (p .tg-place, p .scale-place, p .num-place, p .ttl-place, a, n, e, w .tg-some, w .shown, no-hint (t .lpa2) (o .tg) (o .ttl) (w .hint))
+    simp (p .tg-place, p .scale-place, p .num-place, p .ttl-place, a, n, e, w .tg-some, w .shown, hint-stays (t .lpa2) (o .tg) (o .ttl) (w .hint))
 
 pub read-written : (t : Told) (o : Operand) (xt xt2 : ℕ) → wordsOf t o ≡ Words xt xt2 → operandOf t xt xt2 ≡ Fields o
 unfolding wordsOf
@@ -256,17 +256,17 @@ ns-read Stage2NoNs xt = refl
 
 hint-most : (lpa2 : Bool) (tg ttl : ℕ) → ttl < 4 → hintOf lpa2 tg ttl < 4
 unfolding hintOf
-hint-most lpa2 tg ttl h = go (isNoHint lpa2 tg ttl)
+hint-most lpa2 tg ttl h = go (readsAsZero lpa2 tg ttl)
   where
     go : (b : Bool) → cond b 0 ttl < 4
     go true = omega arith
     go false = h
 
-hint-read : (lpa2 : Bool) (tg ttl : ℕ) → isNoHint lpa2 tg (hintOf lpa2 tg ttl) ≡ false
+hint-read : (lpa2 : Bool) (tg ttl : ℕ) → readsAsZero lpa2 tg (hintOf lpa2 tg ttl) ≡ false
 unfolding hintOf
-hint-read lpa2 tg ttl = go (isNoHint lpa2 tg ttl) refl
+hint-read lpa2 tg ttl = go (readsAsZero lpa2 tg ttl) refl
   where
-    go : (b : Bool) → isNoHint lpa2 tg ttl ≡ b → isNoHint lpa2 tg (cond b 0 ttl) ≡ false
+    go : (b : Bool) → readsAsZero lpa2 tg ttl ≡ b → readsAsZero lpa2 tg (cond b 0 ttl) ≡ false
     go true e = refl
     go false e = e
 
@@ -331,11 +331,11 @@ xt-cleared : (t : Told) (xt : ℕ) →
     + tgIn xt * 2 ^ 46
     + scaleIn xt * 2 ^ 44
     + numIn xt * 2 ^ 39
-    + cond (not (isNoHint (t .lpa2) (tgIn xt) (ttlIn xt))) (ttlIn xt) 0 * 2 ^ 37
+    + cond (not (readsAsZero (t .lpa2) (tgIn xt) (ttlIn xt))) (ttlIn xt) 0 * 2 ^ 37
     + cond (not (t .tlbip)) (bits 36 0 xt) 0
 xt-cleared t xt =
     let stays : ℕ → Bool = staysXt t xt in
-    let hinted : Bool = not (isNoHint (t .lpa2) (tgIn xt) (ttlIn xt)) in
+    let hinted : Bool = not (readsAsZero (t .lpa2) (tgIn xt) (ttlIn xt)) in
     let g : ℕ → Bool = λ (i : ℕ). bitOf xt i && stays i in
     let base : maskFrom g 0 37 ≡ cond (not (t .tlbip)) (bits 36 0 xt) 0 =
     together stays (not (t .tlbip)) xt 0 37
@@ -356,21 +356,21 @@ xt-cleared t xt =
 
 -- and of Xt2: BaseADDR[55:12] from the granule on
 xt2-cleared : (t : Told) (xt xt2 : ℕ) → IsGranule (tgIn xt) →
-    cleared (staysXt2 t xt) xt2 ≡ cond (t .tlbip) (down (granuleOf (tgIn xt) - 12) (bits 43 0 xt2)) 0
+    cleared (staysXt2 t xt) xt2 ≡ cond (t .tlbip) (down (granuleExponent (tgIn xt) - 12) (bits 43 0 xt2)) 0
 xt2-cleared t xt xt2 (some, most) = go (t .tlbip)
   where
     stays : Bool → ℕ → Bool
-    stays p i = p && ltb i 44 && leb (granuleOf (tgIn xt)) (i + 12)
+    stays p i = p && ltb i 44 && leb (granuleExponent (tgIn xt)) (i + 12)
 
-    pair : (j : ℕ) → granuleOf (tgIn xt) ≡ j + 12 → j ≤ 44 → cleared (stays true) xt2 ≡ down j (bits 43 0 xt2)
+    pair : (j : ℕ) → granuleExponent (tgIn xt) ≡ j + 12 → j ≤ 44 → cleared (stays true) xt2 ≡ down j (bits 43 0 xt2)
     pair j e h =
         let g : ℕ → Bool = λ (i : ℕ). bitOf xt2 i && stays true i in
         let low : maskFrom g 0 j ≡ 0 =
         together (stays true) false xt2 0 j
-        (λ (k : ℕ) (l : 0 ≤ k) (u : k < 0 + j). simp (lt-ltb k 44 (omega arith), lt-leb (granuleOf (tgIn xt)) (k + 12) (omega arith))) in
+        (λ (k : ℕ) (l : 0 ≤ k) (u : k < 0 + j). simp (lt-ltb k 44 (omega arith), lt-leb (granuleExponent (tgIn xt)) (k + 12) (omega arith))) in
         let mid : maskFrom g j (44 - j) ≡ xt2 / 2 ^ j % 2 ^ (44 - j) =
         together (stays true) true xt2 j (44 - j)
-        (λ (k : ℕ) (l : j ≤ k) (u : k < j + (44 - j)). simp (lt-ltb k 44 (omega arith), le-leb (granuleOf (tgIn xt)) (k + 12) (omega arith))) in
+        (λ (k : ℕ) (l : j ≤ k) (u : k < j + (44 - j)). simp (lt-ltb k 44 (omega arith), le-leb (granuleExponent (tgIn xt)) (k + 12) (omega arith))) in
         let high : maskFrom g 44 20 ≡ 0 =
         together (stays true) false xt2 44 20 (λ (k : ℕ) (l : 44 ≤ k) (u : k < 44 + 20). simp (le-ltb k 44 l)) in
         let i : j + (44 - j) ≡ 44 = omega arith in
@@ -387,8 +387,8 @@ xt2-cleared t xt xt2 (some, most) = go (t .tlbip)
         let z : maskFrom g 0 64 ≡ 2 ^ j * maskFrom g j (44 - j) = omega arith in
         z ∙ ap (λ (n : ℕ). 2 ^ j * n) (mid ∙ sym f) ∙ mul-comm (2 ^ j) (bits 43 0 xt2 / 2 ^ j)
 
-    go : (p : Bool) → cleared (stays p) xt2 ≡ cond p (down (granuleOf (tgIn xt) - 12) (bits 43 0 xt2)) 0
-    go true = pair (granuleOf (tgIn xt) - 12) (omega arith) (omega arith)
+    go : (p : Bool) → cleared (stays p) xt2 ≡ cond p (down (granuleExponent (tgIn xt) - 12) (bits 43 0 xt2)) 0
+    go true = pair (granuleExponent (tgIn xt) - 12) (omega arith) (omega arith)
     go false = mask-if xt2 0 64 false
 
 not-cond : (b : Bool) (v : ℕ) → cond (not b) v 0 ≡ cond b 0 v
@@ -399,7 +399,7 @@ kept-low : (p : Bool) (tg xt xt2 : ℕ) → cond p 0 (keptOf p tg (baseIn p xt x
 kept-low true tg xt xt2 = refl
 kept-low false tg xt xt2 = refl
 
-kept-high : (p : Bool) (tg xt xt2 : ℕ) → cond p (keptOf p tg (baseIn p xt xt2)) 0 ≡ cond p (down (granuleOf tg - 12) (bits 43 0 xt2)) 0
+kept-high : (p : Bool) (tg xt xt2 : ℕ) → cond p (keptOf p tg (baseIn p xt xt2)) 0 ≡ cond p (down (granuleExponent tg - 12) (bits 43 0 xt2)) 0
 kept-high true tg xt xt2 = refl
 kept-high false tg xt xt2 = refl
 
@@ -418,7 +418,7 @@ words-read t xt xt2 h =
       kept-high (t .tlbip) (tgIn xt) xt xt2,
       xt-cleared t xt,
       xt2-cleared t xt xt2 g,
-      not-cond (isNoHint (t .lpa2) (tgIn xt) (ttlIn xt)) (ttlIn xt),
+      not-cond (readsAsZero (t .lpa2) (tgIn xt) (ttlIn xt)) (ttlIn xt),
     )
 
 -- what reads as fields: those words' own, and TG is not 00
@@ -459,6 +459,10 @@ pub cleared-bit : (stays : ℕ → Bool) (x i : ℕ) → i < 64 → bitOf (clear
 cleared-bit stays x i h =
     let e : 0 + i ≡ i = omega arith in
     mask-bit (λ (k : ℕ). bitOf x k && stays k) 0 64 i h ∙ ap (λ (k : ℕ). bitOf x k && stays k) e
+
+-- and there are no others
+pub cleared-fits : (stays : ℕ → Bool) (x : ℕ) → cleared stays x < 2 ^ 64
+cleared-fits stays x = mask-below (λ (k : ℕ). bitOf x k && stays k) 0 64
 
 -- What callers use.
 pub writable-within : (t : Told) (o : Operand) → isWritable t o ≡ true → Within o

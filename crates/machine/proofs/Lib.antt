@@ -5,6 +5,7 @@ pub mod State
 pub mod Reach
 pub mod Fields
 pub mod Spans
+pub mod Covered
 pub mod Alike
 pub mod Pages
 pub mod Sample

@@ -1,16 +1,18 @@
 -- Spans: 01's thirty cells, and size, alignment, end and meeting, once over granule and width.
-use Prim.Native.Nat.{ℕ, zero, suc, _+_, _-_, _%_, _^_, _<_, _≤_, max}
-use mathlib.Core.Bool.{Bool, true, false, cond}
+use Prim.Native.Nat.{ℕ, zero, suc, _+_, _*_, _-_, _/_, _%_, _^_, _<_, _≤_, max}
+use mathlib.Core.Bool.{Bool, true, false, cond, _&&_}
 use mathlib.Core.List.{List, [], _∷_}
 use mathlib.Core.Path.{_≡_, refl, sym, _∙_}
+use native.Mathlib.Nat.{mod-lt, mul-le-mul, mul-mod-left}
 use native.Mathlib.Omega.{arith}
 use lib.Dec.{leb}
 use lib.IntN.{ℤ, pos, negsuc}
-use lib.Pow.{pow-pos}
+use lib.Pow.{pow-pos, split}
 use borrow.Author.Tests.{leb-true, le-leb, lt-leb}
 use Rattle.laws.proofs.Aligned.{ends, inside}
 use Rattle.laws.proofs.Truth.{and-0, and-1}
-use Rattle.machine.specs.Operand.{granuleOf}
+use Rattle.laws.specs.Bits.{down}
+use Rattle.machine.specs.Operand.{isGranule, granuleExponent}
 use Rattle.machine.specs.Span.{isLevel, heightOf, exponentAt, exponentOf, hasSpan, inSpan, meetsRange}
 
 -- A level is one of five: what holds at each of them, -1 first, holds at every level.
@@ -36,6 +38,22 @@ height-low (suc (suc zero)) h = refl
 height-low (suc (suc (suc zero))) h = refl
 height-low (suc (suc (suc (suc n)))) h = absurd (omega arith)
 
+pub level-low : (n : ℕ) → n ≤ 3 → isLevel (pos n) ≡ true
+unfolding isLevel
+level-low n h = simp (le-leb n 3 h)
+
+pub exponent-low : (wide : Bool) (tg n : ℕ) → tg ≤ 3 → n ≤ 3 → exponentOf wide tg (pos n) ≤ 55
+unfolding exponentOf exponentAt
+exponent-low wide tg n t h =
+    let less : granuleExponent tg - cond wide 4 3 ≤ 13 = bits wide in
+    let low : 3 - n ≤ 3 = omega arith in
+    let e : heightOf (pos n) ≡ 3 - n = height-low n h in
+    rw e (omega (arith, mul-le-mul less low))
+  where
+    bits : (w : Bool) → granuleExponent tg - cond w 4 3 ≤ 13
+    bits true = omega arith
+    bits false = omega arith
+
 -- a cell of 01's table: an exponent, or none
 abbrev none : ℕ
 none = 0
@@ -60,24 +78,41 @@ pub table :
 unfolding hasSpan exponentOf exponentAt isLevel heightOf
 table = refl
 
--- and no level beyond
+-- and it has no other row, column or cell
 pub no-level : (wide : Bool) (tg n : ℕ) → (hasSpan wide tg (negsuc (suc n)) ≡ false) × (hasSpan wide tg (pos (n + 4)) ≡ false)
 unfolding hasSpan isLevel
 no-level wide tg n =
     let low : leb (suc n) 0 ≡ false = lt-leb (suc n) 0 (omega arith) in
     let high : leb (n + 4) 3 ≡ false = lt-leb (n + 4) 3 (omega arith) in
-    (simp low, simp high)
+    let below : isLevel (negsuc (suc n)) ≡ false = simp low in
+    let above : isLevel (pos (n + 4)) ≡ false = simp high in
+    (never (isGranule tg) (isLevel (negsuc (suc n))) _ below, never (isGranule tg) (isLevel (pos (n + 4))) _ above)
+  where
+    never : (a b c : Bool) → b ≡ false → (a && b && c) ≡ false
+    never true b c h = simp h
+    never false b c h = refl
 
--- a level with a span is a level, and its span is at least a granule and at most 2^54 bytes
+pub no-granule : (wide : Bool) (l : ℤ) (n : ℕ) → (hasSpan wide 0 l ≡ false) × (hasSpan wide (n + 4) l ≡ false)
+unfolding hasSpan
+no-granule wide l n =
+    let high : leb (n + 4) 3 ≡ false = lt-leb (n + 4) 3 (omega arith) in
+    let low : leb 1 (n + 4) ≡ true = le-leb 1 (n + 4) (omega arith) in
+    (refl, simp (low, high))
+
+-- a level with a span is a level of a granule, and its span is at least a granule and at most 2^54 bytes
+pub span-tg : (wide : Bool) (tg : ℕ) (l : ℤ) → hasSpan wide tg l ≡ true → isGranule tg ≡ true
+unfolding hasSpan
+span-tg wide tg l h = and-0 (isGranule tg) (isLevel l) (and-0 (isGranule tg && isLevel l) _ h)
+
 pub span-level : (wide : Bool) (tg : ℕ) (l : ℤ) → hasSpan wide tg l ≡ true → isLevel l ≡ true
 unfolding hasSpan
-span-level wide tg l h = and-0 (isLevel l) _ h
+span-level wide tg l h = and-1 (isGranule tg) (isLevel l) (and-0 (isGranule tg && isLevel l) _ h)
 
 pub span-most : (wide : Bool) (tg : ℕ) (l : ℤ) → hasSpan wide tg l ≡ true → exponentOf wide tg l ≤ 54
 unfolding hasSpan
-span-most wide tg l h = leb-true _ _ (and-1 (isLevel l) (leb (exponentOf wide tg l) 54) h)
+span-most wide tg l h = leb-true _ _ (and-1 (isGranule tg && isLevel l) (leb (exponentOf wide tg l) 54) h)
 
-pub span-granule : (wide : Bool) (tg : ℕ) (l : ℤ) → granuleOf tg ≤ exponentOf wide tg l
+pub span-granule : (wide : Bool) (tg : ℕ) (l : ℤ) → granuleExponent tg ≤ exponentOf wide tg l
 unfolding exponentOf exponentAt
 span-granule wide tg l = omega arith
 
@@ -96,6 +131,13 @@ in-span base k a h =
 
 pub in-span-holds : (base k a : ℕ) → base ≤ a → a < base + 2 ^ k → inSpan base k a ≡ true
 in-span-holds base k a l u = let m : a ≤ base + (2 ^ k - 1) = omega arith in simp (le-leb _ _ l, le-leb _ _ m)
+
+-- every address is in a span of each size: the one at the address with its lowest bits zero
+pub span-some : (k a : ℕ) → (down k a % 2 ^ k ≡ 0) × (inSpan (down k a) k a ≡ true)
+span-some k a =
+    let r : a % 2 ^ k < 2 ^ k = mod-lt a (pow-pos k) in
+    let s : a / 2 ^ k * 2 ^ k + a % 2 ^ k ≡ a = split a k in
+    (mul-mod-left (a / 2 ^ k) (2 ^ k), in-span-holds (down k a) k a (omega arith) (omega arith))
 
 -- two spans of one size that have an address in common are one span
 pub span-one : (k a b x : ℕ) → a % 2 ^ k ≡ 0 → b % 2 ^ k ≡ 0 → inSpan a k x ≡ true → inSpan b k x ≡ true → a ≡ b

@@ -1,5 +1,6 @@
 -- 01, "Answer numbers": the number and the value of each case of an answer.
 use Prim.Native.Nat.{ℕ}
+use Rattle.machine.specs.declared.operand.Operand.{Operand}
 use Rattle.machine.specs.declared.operand.OperandRead.{OperandRead}
 use Rattle.machine.specs.declared.operand.OperandRead.the-variants as read
 use Rattle.machine.specs.declared.operand.OperandWritten.{OperandWritten}
@@ -31,6 +32,22 @@ readNumber read.NoGranule = 6
 abbrev pub writtenNumber : OperandWritten → ℕ
 writtenNumber (Words xt xt2) = 0
 writtenNumber Refused = 8
+
+-- what they give besides: the fields, and the two words; "Numbers not named are 0."
+abbrev pub noFields : Operand
+noFields = record { asid = 0; ns = 0; tg = 0; scale = 0; num = 0; ttl = 0; base = 0 }
+
+abbrev pub readFields : OperandRead → Operand
+readFields (read.Fields o) = o
+readFields read.NoGranule = noFields
+
+abbrev pub writtenXt : OperandWritten → ℕ
+writtenXt (Words xt xt2) = xt
+writtenXt Refused = 0
+
+abbrev pub writtenXt2 : OperandWritten → ℕ
+writtenXt2 (Words xt xt2) = xt2
+writtenXt2 Refused = 0
 
 -- "6 TG is 00", "7 range is UNPREDICTABLE"; 0 says only that the operand refuses nothing
 abbrev pub rangedNumber : Ranged → ℕ

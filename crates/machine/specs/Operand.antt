@@ -36,13 +36,17 @@ copiesTop OneRange = false
 copiesTop Stage2Ns = false
 copiesTop Stage2NoNs = false
 
--- "(1 4K, 2 16K, 3 64K)": the granule is 2^12, 2^14 or 2^16 bytes
-abbrev pub granuleOf : ℕ → ℕ
-granuleOf tg = 10 + 2 * tg
+-- "(1 4K, 2 16K, 3 64K)"
+abbrev pub isGranule : ℕ → Bool
+isGranule tg = leb 1 tg && leb tg 3
 
--- "in units of the granule; in units of 64 KiB if ..."
-abbrev pub unitOf : Bool → ℕ → ℕ
-unitOf unit64k tg = cond unit64k 16 (granuleOf tg)
+-- the granule is 2^12, 2^14 or 2^16 bytes
+abbrev pub granuleExponent : ℕ → ℕ
+granuleExponent tg = 10 + 2 * tg
+
+-- "in units of the granule; in units of 64 KiB if ...": 2^12, 2^14 or 2^16 bytes, or 2^16
+abbrev pub unitExponent : Bool → ℕ → ℕ
+unitExponent unit64k tg = cond unit64k 16 (granuleExponent tg)
 
 -- the n-bit number b in units of 2^k, as an address: "copy their top bit upward", where s holds
 abbrev pub extend : ℕ → ℕ → Bool → ℕ → ℕ
@@ -52,15 +56,15 @@ extend n k s b = cond (s && leb (2 ^ (n - 1)) b) (b * 2 ^ k + (2 ^ 64 - 2 ^ (n +
 unfoldable pub addressOf : Told → ℕ → ℕ → ℕ
 addressOf t tg b =
     cond (t .tlbip)
-    (extend 44 12 (copiesTop (t .form)) (down (granuleOf tg - 12) b))
-    (extend 37 (unitOf (t .unit64k) tg) (copiesTop (t .form)) b)
+    (extend 44 12 (copiesTop (t .form)) (down (granuleExponent tg - 12) b))
+    (extend 37 (unitExponent (t .unit64k) tg) (copiesTop (t .form)) b)
 
 -- "TTL 01 with 16K and no LPA2 reads as 00."
-abbrev pub isNoHint : Bool → ℕ → ℕ → Bool
-isNoHint lpa2 tg ttl = eqb ttl 1 && eqb tg 2 && not lpa2
+abbrev pub readsAsZero : Bool → ℕ → ℕ → Bool
+readsAsZero lpa2 tg ttl = eqb ttl 1 && eqb tg 2 && not lpa2
 
 unfoldable pub hintOf : Bool → ℕ → ℕ → ℕ
-hintOf lpa2 tg ttl = cond (isNoHint lpa2 tg ttl) 0 ttl
+hintOf lpa2 tg ttl = cond (readsAsZero lpa2 tg ttl) 0 ttl
 
 -- The fields. "ASID 63:48 ...; for RIPAS2 bit 63 is NS."
 abbrev pub asidIn : Form → ℕ → ℕ
@@ -97,7 +101,7 @@ fieldsIn t xt xt2 = record {
   base = addressOf t (tgIn xt) (baseIn (t .tlbip) xt xt2);
 }
 
--- the fields of a word fit their places, and TG is not 00: what is asked of fields that mean a range
+-- TG, SCALE, NUM and TTL fit their places, and TG is not 00: what is asked of fields that mean a range
 abbrev pub Within : Operand → Type 0
 Within o = (1 ≤ o .tg) × (o .tg < 4) × (o .scale < 4) × (o .num < 32) × (o .ttl < 4)
 
@@ -107,7 +111,7 @@ operandOf t xt xt2 = cond (eqb (tgIn xt) 0) NoGranule (Fields (fieldsIn t xt xt2
 
 -- the field that holds the bits of an address where `addressOf` looks for them
 unfoldable pub fieldOf : Told → ℕ → ℕ → ℕ
-fieldOf t tg a = cond (t .tlbip) (a / 2 ^ 12 % 2 ^ 44) (a / 2 ^ unitOf (t .unit64k) tg % 2 ^ 37)
+fieldOf t tg a = cond (t .tlbip) (a / 2 ^ 12 % 2 ^ 44) (a / 2 ^ unitExponent (t .unit64k) tg % 2 ^ 37)
 
 -- the base can be shown: its field reads as it
 unfoldable pub isShown : Told → ℕ → ℕ → Bool
@@ -128,7 +132,7 @@ isWritable t o =
     && ltb (o .ttl) 4
     && fits (hasAsid (t .form)) 16 (o .asid)
     && fits (hasNs (t .form)) 1 (o .ns)
-    && not (isNoHint (t .lpa2) (o .tg) (o .ttl))
+    && not (readsAsZero (t .lpa2) (o .tg) (o .ttl))
     && isShown t (o .tg) (o .base)
 
 -- the words of fields that fit; "The writer puts unused bits to zero"
@@ -154,12 +158,12 @@ abbrev pub staysXt : Told → ℕ → ℕ → Bool
 staysXt t xt i =
     cond (leb 48 i) (hasAsid (t .form) || (hasNs (t .form) && eqb i 63))
     (cond (leb 39 i) true
-    (cond (leb 37 i) (not (isNoHint (t .lpa2) (tgIn xt) (ttlIn xt)))
+    (cond (leb 37 i) (not (readsAsZero (t .lpa2) (tgIn xt) (ttlIn xt)))
     (not (t .tlbip))))
 
 -- and of Xt2: 43:0 are BaseADDR[55:12] of a TLBIP, of which those below the granule are ignored
 abbrev pub staysXt2 : Told → ℕ → ℕ → Bool
-staysXt2 t xt i = t .tlbip && ltb i 44 && leb (granuleOf (tgIn xt)) (i + 12)
+staysXt2 t xt i = t .tlbip && ltb i 44 && leb (granuleExponent (tgIn xt)) (i + 12)
 
 -- a word of 64 bits with the others cleared
 abbrev pub cleared : (ℕ → Bool) → ℕ → ℕ

@@ -1,10 +1,9 @@
 // The TTL hint: 01 with 16K and no LPA2 reads as 00.
-ghost use Prim.Native.Nat.{_≤_};
 ghost use mathlib.Core.Path.{_≡_};
-ghost use Rattle.machine.specs.Operand.{isNoHint, hintOf};
+ghost use Rattle.machine.specs.Operand.{readsAsZero, hintOf};
 
-pub fn is_no_hint(lpa2: bool, tg: u64, ttl: u64) -> bool
-    ensures { λ r. ⌜ r ≡ isNoHint lpa2 tg ttl ⌝ }
+pub fn reads_as_zero(lpa2: bool, tg: u64, ttl: u64) -> bool
+    ensures { λ r. ⌜ r ≡ readsAsZero lpa2 tg ttl ⌝ }
 {
     (ttl == 1) & (tg == 2) & !lpa2
 }
@@ -12,5 +11,5 @@ pub fn is_no_hint(lpa2: bool, tg: u64, ttl: u64) -> bool
 pub fn hint_of(lpa2: bool, tg: u64, ttl: u64) -> u64
     ensures { λ r. ⌜ r ≡ hintOf lpa2 tg ttl ⌝ }
 {
-    if is_no_hint(lpa2, tg, ttl) { 0 } else { ttl }
+    if reads_as_zero(lpa2, tg, ttl) { 0 } else { ttl }
 }

@@ -1,7 +1,7 @@
 // How long a range is, and where it ends.
 ghost use Prim.Native.Nat.{_+_, _*_, _^_, _≤_, _<_};
 ghost use mathlib.Core.Path.{_≡_};
-ghost use Rattle.machine.specs.Operand.{granuleOf, Within};
+ghost use Rattle.machine.specs.Operand.{granuleExponent, Within};
 ghost use Rattle.machine.specs.Range.{lengthOf, lastOf};
 use machine::Operand;
 
@@ -19,7 +19,7 @@ fn granules(num: u64, scale: u64) -> u64
 
 fn bytes(tg: u64, granules: u64) -> u64
     requires { ⌜ (1 ≤ tg) × (tg < 4) × (1 ≤ granules) × (granules ≤ 2097152) ⌝ }
-    ensures { λ r. ⌜ (r ≡ granules * 2 ^ granuleOf tg) × (1 ≤ r) ⌝ }
+    ensures { λ r. ⌜ (r ≡ granules * 2 ^ granuleExponent tg) × (1 ≤ r) ⌝ }
 {
     match tg {
         1 => granules * 4096,
@@ -40,10 +40,10 @@ pub fn last_of(first: u64, length: u64) -> u64
     requires { ⌜ 1 ≤ length ⌝ }
     ensures { λ r. ⌜ r ≡ lastOf first length ⌝ }
 {
-    let room = 18446744073709551615 - first;
+    let room = 0xFFFFFFFFFFFFFFFF - first;
     if length <= room {
         first + (length - 1)
     } else {
-        18446744073709551615
+        0xFFFFFFFFFFFFFFFF
     }
 }

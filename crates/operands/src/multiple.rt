@@ -2,13 +2,13 @@
 ghost use Prim.Native.Nat.{_≤_, _<_};
 ghost use mathlib.Core.Path.{_≡_};
 ghost use Rattle.machine.specs.Operand.{Within};
-ghost use Rattle.machine.specs.Range.{tlbiMultiple, tlbipMultiple, isUnpredictable};
+ghost use Rattle.machine.specs.Range.{tlbiExponent, tlbipExponent, isUnpredictable};
 use machine::Operand;
-use spans::exponent_at;
+use spans::exponent_of;
 use spans::is_multiple;
 
 fn of_4k(ttl: u64) -> u64
-    ensures { λ r. ⌜ (r ≡ tlbiMultiple 1 ttl) × (r ≤ 63) ⌝ }
+    ensures { λ r. ⌜ (r ≡ tlbiExponent 1 ttl) × (r ≤ 63) ⌝ }
 {
     match ttl {
         1 => 30,
@@ -18,7 +18,7 @@ fn of_4k(ttl: u64) -> u64
 }
 
 fn of_16k(ttl: u64) -> u64
-    ensures { λ r. ⌜ (r ≡ tlbiMultiple 2 ttl) × (r ≤ 63) ⌝ }
+    ensures { λ r. ⌜ (r ≡ tlbiExponent 2 ttl) × (r ≤ 63) ⌝ }
 {
     match ttl {
         2 => 25,
@@ -27,7 +27,7 @@ fn of_16k(ttl: u64) -> u64
 }
 
 fn of_64k(ttl: u64) -> u64
-    ensures { λ r. ⌜ (r ≡ tlbiMultiple 3 ttl) × (r ≤ 63) ⌝ }
+    ensures { λ r. ⌜ (r ≡ tlbiExponent 3 ttl) × (r ≤ 63) ⌝ }
 {
     match ttl {
         1 => 42,
@@ -36,9 +36,9 @@ fn of_64k(ttl: u64) -> u64
     }
 }
 
-fn tlbi_multiple(tg: u64, ttl: u64) -> u64
+fn tlbi_exponent(tg: u64, ttl: u64) -> u64
     requires { ⌜ (1 ≤ tg) × (tg < 4) ⌝ }
-    ensures { λ r. ⌜ (r ≡ tlbiMultiple tg ttl) × (r ≤ 63) ⌝ }
+    ensures { λ r. ⌜ (r ≡ tlbiExponent tg ttl) × (r ≤ 63) ⌝ }
 {
     match tg {
         1 => of_4k(ttl),
@@ -47,14 +47,14 @@ fn tlbi_multiple(tg: u64, ttl: u64) -> u64
     }
 }
 
-fn tlbip_multiple(tg: u64, ttl: u64) -> u64
+fn tlbip_exponent(tg: u64, ttl: u64) -> u64
     requires { ⌜ (tg < 4) × (ttl < 4) ⌝ }
-    ensures { λ r. ⌜ (r ≡ tlbipMultiple tg ttl) × (r ≤ 63) ⌝ }
+    ensures { λ r. ⌜ (r ≡ tlbipExponent tg ttl) × (r ≤ 63) ⌝ }
 {
     if ttl == 0 {
         return 0;
     }
-    exponent_at(true, tg, 3 - ttl)
+    exponent_of(true, tg, ttl as i8)
 }
 
 pub fn is_unpredictable(tlbip: bool, o: Operand) -> bool
@@ -62,9 +62,9 @@ pub fn is_unpredictable(tlbip: bool, o: Operand) -> bool
     ensures { λ r. ⌜ r ≡ isUnpredictable tlbip o ⌝ }
 {
     if tlbip {
-        let k = tlbip_multiple(o.tg, o.ttl);
+        let k = tlbip_exponent(o.tg, o.ttl);
         return !is_multiple(o.base, k);
     }
-    let k = tlbi_multiple(o.tg, o.ttl);
+    let k = tlbi_exponent(o.tg, o.ttl);
     !is_multiple(o.base, k)
 }

@@ -15,7 +15,7 @@ fn asid_in(form: Form, xt: u64) -> u64
     ensures { λ r. ⌜ r ≡ asidIn form xt ⌝ }
 {
     if has_asid(form) {
-        xt / 281474976710656 % 65536
+        xt / 0x1000000000000 % 0x10000
     } else {
         0
     }
@@ -25,7 +25,7 @@ fn ns_in(form: Form, xt: u64) -> u64
     ensures { λ r. ⌜ r ≡ nsIn form xt ⌝ }
 {
     if has_ns(form) {
-        xt / 9223372036854775808 % 2
+        xt / 0x8000000000000000 % 2
     } else {
         0
     }
@@ -34,13 +34,13 @@ fn ns_in(form: Form, xt: u64) -> u64
 pub fn read_operand(told: Told, xt: u64, xt2: u64) -> OperandRead
     ensures { λ r. ⌜ r ≡ operandOf told xt xt2 ⌝ }
 {
-    let tg = xt / 70368744177664 % 4;
+    let tg = xt / 0x400000000000 % 4;
     if tg == 0 {
         return OperandRead::NoGranule;
     }
     let field = base_in(told.tlbip, xt, xt2);
     let base = address_of(told, tg, field);
-    let ttl = hint_of(told.lpa2, tg, xt / 137438953472 % 4);
+    let ttl = hint_of(told.lpa2, tg, xt / 0x2000000000 % 4);
     let form = told.form;
     let asid = asid_in(form, xt);
     let ns = ns_in(form, xt);
@@ -48,8 +48,8 @@ pub fn read_operand(told: Told, xt: u64, xt2: u64) -> OperandRead
         asid,
         ns,
         tg,
-        scale: xt / 17592186044416 % 4,
-        num: xt / 549755813888 % 32,
+        scale: xt / 0x100000000000 % 4,
+        num: xt / 0x8000000000 % 32,
         ttl,
         base,
     })

@@ -7,7 +7,7 @@ use crate::base::address_of;
 use crate::base::field_of;
 use crate::form::has_asid;
 use crate::form::has_ns;
-use crate::hint::is_no_hint;
+use crate::hint::reads_as_zero;
 use machine::Operand;
 use machine::OperandWritten;
 use machine::Told;
@@ -15,7 +15,7 @@ use machine::Told;
 fn asid_fits(has: bool, asid: u64) -> bool
     ensures { λ r. ⌜ r ≡ fits has 16 asid ⌝ }
 {
-    if has { asid < 65536 } else { asid == 0 }
+    if has { asid < 0x10000 } else { asid == 0 }
 }
 
 fn ns_fits(has: bool, ns: u64) -> bool
@@ -45,21 +45,21 @@ fn is_writable(told: Told, o: Operand) -> bool
     let form = told.form;
     let asid = asid_fits(has_asid(form), o.asid);
     let ns = ns_fits(has_ns(form), o.ns);
-    let no_hint = is_no_hint(told.lpa2, tg, o.ttl);
+    let zero_ttl = reads_as_zero(told.lpa2, tg, o.ttl);
     let shown = is_shown(told, tg, o.base);
-    (o.scale < 4) & (o.num < 32) & (o.ttl < 4) & asid & ns & !no_hint & shown
+    (o.scale < 4) & (o.num < 32) & (o.ttl < 4) & asid & ns & !zero_ttl & shown
 }
 
 fn joined(ns: u64, asid: u64, tg: u64, scale: u64, num: u64, ttl: u64, low: u64) -> u64
     requires { ⌜ (ns * 2 ^ 15 + asid < 2 ^ 16) × (tg < 4) × (scale < 4) × (num < 32) × (ttl < 4) × (low < 2 ^ 37) ⌝ }
     ensures { λ r. ⌜ r ≡ ns * 2 ^ 63 + asid * 2 ^ 48 + tg * 2 ^ 46 + scale * 2 ^ 44 + num * 2 ^ 39 + ttl * 2 ^ 37 + low ⌝ }
 {
-    ns * 9223372036854775808
-        + asid * 281474976710656
-        + tg * 70368744177664
-        + scale * 17592186044416
-        + num * 549755813888
-        + ttl * 137438953472
+    ns * 0x8000000000000000
+        + asid * 0x1000000000000
+        + tg * 0x400000000000
+        + scale * 0x100000000000
+        + num * 0x8000000000
+        + ttl * 0x2000000000
         + low
 }
 

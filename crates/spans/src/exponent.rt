@@ -1,8 +1,8 @@
-// Span exponents by width, granule and level. TG is 1 to 3 wherever it is asked for.
+// Span exponents by width, granule and level.
 ghost use Prim.Native.Nat.{_+_, _*_, _-_, _≤_};
 ghost use mathlib.Core.Bool.{true, cond};
 ghost use mathlib.Core.Path.{_≡_};
-ghost use Rattle.machine.specs.Operand.{granuleOf};
+ghost use Rattle.machine.specs.Operand.{granuleExponent};
 ghost use Rattle.machine.specs.Span.{isLevel, exponentAt, exponentOf, hasSpan};
 use crate::level::height_of;
 use crate::level::is_level;
@@ -10,7 +10,7 @@ use crate::level::is_level;
 // The bits of an address that one level decides.
 fn index_bits(wide: bool, tg: u64) -> u64
     requires { ⌜ tg ≤ 3 ⌝ }
-    ensures { λ r. ⌜ (r ≡ granuleOf tg - cond wide 4 3) × (r ≤ 13) ⌝ }
+    ensures { λ r. ⌜ (r ≡ granuleExponent tg - cond wide 4 3) × (r ≤ 13) ⌝ }
 {
     if wide { 2 * tg + 6 } else { 2 * tg + 7 }
 }
@@ -32,9 +32,14 @@ pub fn exponent_of(wide: bool, tg: u64, level: i8) -> u64
 }
 
 pub fn has_span(wide: bool, tg: u64, level: i8) -> bool
-    requires { ⌜ tg ≤ 3 ⌝ }
     ensures { λ r. ⌜ r ≡ hasSpan wide tg level ⌝ }
 {
+    if tg < 1 {
+        return false;
+    }
+    if 3 < tg {
+        return false;
+    }
     if is_level(level) {
         exponent_of(wide, tg, level) <= 54
     } else {

@@ -15,13 +15,13 @@ tlbip-address-requires c κs =
     let a = c .before .before .args in
     (c .before .before .pre .0, c .before .before .pre .1, subst (λ (b : Bool). a .field < 2 ^ cond b 44 37) (c .if1 .taken) (c .before .before .pre .2))
 
-unit-of-requires : tie.Need-unit-of-requires
-unit-of-requires c κs = search needs
+unit-tg-requires : tie.Need-unit-tg-requires
+unit-tg-requires c κs = search needs
 
 tlbi-address-requires : tie.Need-tlbi-address-requires
 tlbi-address-requires c κs =
     let a = c .before .before .before .args in
-    (c .unit-of .ensures .1, c .unit-of .ensures .2, subst (λ (b : Bool). a .field < 2 ^ cond b 44 37) (c .before .if1 .left) (c .before .before .before .pre .2))
+    (c .unit-tg .ensures .1, c .unit-tg .ensures .2, subst (λ (b : Bool). a .field < 2 ^ cond b 44 37) (c .before .if1 .left) (c .before .before .before .pre .2))
 
 returns : tie.Need-returns
 unfolding addressOf
@@ -29,7 +29,7 @@ returns c = simp (c .tlbip-address .ensures, c .before .if1 .taken, ← c .befor
 
 returns-2 : tie.Need-returns-2
 unfolding addressOf
-returns-2 c = simp (c .tlbi-address .ensures, c .before .unit-of .ensures .0, c .before .before .if1 .left, c .before .before .before .copies-top .ensures)
+returns-2 c = simp (c .tlbi-address .ensures, c .before .unit-tg .ensures .0, c .before .before .if1 .left, c .before .before .before .copies-top .ensures)
 
 pub address-of-spec : {M : Type 1} → statement M
 address-of-spec =
@@ -37,7 +37,7 @@ address-of-spec =
     (tie.spec
     copies-top-requires
     tlbip-address-requires
-    unit-of-requires
+    unit-tg-requires
     tlbi-address-requires
     returns
     returns-2)

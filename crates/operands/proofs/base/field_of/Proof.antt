@@ -9,8 +9,8 @@ use Rattle.machine.specs.Operand.{fieldOf}
 use Rattle.operands.proofs.base.field_of.Statement.{statement}
 use Rattle.operands.proofs.base.field_of.Tie as tie
 
-unit-of-requires : tie.Need-unit-of-requires
-unit-of-requires c κs = search needs
+unit-tg-requires : tie.Need-unit-tg-requires
+unit-tg-requires c κs = search needs
 
 tlbi-field-requires : tie.Need-tlbi-field-requires
 tlbi-field-requires c κs = search needs
@@ -24,8 +24,8 @@ unfolding fieldOf
 returns-2 c =
     let p = c .before .before .before in
     let a = p .args in
-    let e : c .tlbi-field .result ≡ fieldOf (a .told) (a .tg) (a .address) = simp (c .tlbi-field .ensures, c .before .unit-of .ensures .0, c .before .before .if1 .left) in
+    let e : c .tlbi-field .result ≡ fieldOf (a .told) (a .tg) (a .address) = simp (c .tlbi-field .ensures, c .before .unit-tg .ensures .0, c .before .before .if1 .left) in
     (e, subst (λ (n : ℕ). n < 2 ^ cond (a .told .tlbip) 44 37) (sym e) (field-most (a .told) (a .tg) (a .address)))
 
 pub field-of-spec : {M : Type 1} → statement M
-field-of-spec = tie.close (tie.spec unit-of-requires tlbi-field-requires returns returns-2)
+field-of-spec = tie.close (tie.spec unit-tg-requires tlbi-field-requires returns returns-2)

@@ -2,20 +2,20 @@
 use mathlib.Core.Path.{refl}
 use lib.Dec.{lit≤}
 use borrow.Author.Tests.{ne-eqb}
-use Rattle.machine.specs.Range.{tlbiMultiple}
+use Rattle.machine.specs.Range.{tlbiExponent}
 use Rattle.operands.proofs.multiple.of_64k.Statement.{statement}
 use Rattle.operands.proofs.multiple.of_64k.Tie as tie
 
 returns : tie.Need-returns
-unfolding tlbiMultiple
+unfolding tlbiExponent
 returns c = rw (c .match .keys1) (refl, lit≤ tt)
 
 returns-2 : tie.Need-returns-2
-unfolding tlbiMultiple
+unfolding tlbiExponent
 returns-2 c = rw (c .match .keys2) (refl, lit≤ tt)
 
 returns-3 : tie.Need-returns-3
-unfolding tlbiMultiple
+unfolding tlbiExponent
 returns-3 c = (simp (ne-eqb _ _ (c .match .rest .1), ne-eqb _ _ (c .match .rest .0 .1)), lit≤ tt)
 
 pub of-64k-spec : {M : Type 1} → statement M

@@ -25,8 +25,8 @@ has-ns-requires c κs = search needs
 ns-fits-requires : tie.Need-ns-fits-requires
 ns-fits-requires c κs = search needs
 
-is-no-hint-requires : tie.Need-is-no-hint-requires
-is-no-hint-requires c κs = search needs
+reads-as-zero-requires : tie.Need-reads-as-zero-requires
+reads-as-zero-requires c κs = search needs
 
 is-shown-requires : tie.Need-is-shown-requires
 is-shown-requires c κs = search needs
@@ -36,7 +36,7 @@ unfolding isWritable
 returns-3 c =
     simp (
       c .before .before .before .is-shown .ensures,
-      c .before .before .before .before .is-no-hint .ensures,
+      c .before .before .before .before .reads-as-zero .ensures,
       c .before .before .before .before .before .ns-fits .ensures,
       c .before .before .before .before .before .before .has-ns .ensures,
       c .before .before .before .before .before .before .before .asid-fits .ensures,
@@ -55,6 +55,6 @@ is-writable-spec =
     asid-fits-requires
     has-ns-requires
     ns-fits-requires
-    is-no-hint-requires
+    reads-as-zero-requires
     is-shown-requires
     returns-3)

@@ -1,9 +1,9 @@
--- `operands::multiple::tlbi_multiple` meets its contract.
+-- `operands::multiple::tlbi_exponent` meets its contract.
 use mathlib.Core.Path.{_≡_}
 use native.Mathlib.Omega.{arith}
 use borrow.Author.Needs.{needs}
-use Rattle.operands.proofs.multiple.tlbi_multiple.Statement.{statement}
-use Rattle.operands.proofs.multiple.tlbi_multiple.Tie as tie
+use Rattle.operands.proofs.multiple.tlbi_exponent.Statement.{statement}
+use Rattle.operands.proofs.multiple.tlbi_exponent.Tie as tie
 
 of-4k-requires : tie.Need-of-4k-requires
 of-4k-requires c κs = search needs
@@ -23,6 +23,6 @@ returns-2 c = rw (c .before .match .keys2) (c .of-16k .ensures)
 returns-3 : tie.Need-returns-3
 returns-3 c = let h : c .before .before .args .tg ≡ 3 = omega arith in rw h (c .of-64k .ensures)
 
-pub tlbi-multiple-spec : {M : Type 1} → statement M
-tlbi-multiple-spec =
+pub tlbi-exponent-spec : {M : Type 1} → statement M
+tlbi-exponent-spec =
     tie.close (tie.spec of-4k-requires of-16k-requires of-64k-requires returns returns-2 returns-3)
