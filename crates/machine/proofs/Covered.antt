@@ -1,41 +1,21 @@
 -- A range covers the addresses from its base on, as many as it is long, save those that there are not; and the operand's answers.
-use Prim.Native.Nat.{ℕ, _+_, _*_, _-_, _^_, _<_, _≤_}
-use mathlib.Core.Bool.{Bool, true, false, cond, _&&_}
+use Prim.Native.Nat.{ℕ, _+_, _*_, _^_, _<_, _≤_}
+use mathlib.Core.Bool.{Bool, true, false, cond}
 use mathlib.Core.Logic.{_↔_}
 use mathlib.Core.Path.{_≡_, refl, subst}
 use native.Mathlib.Nat.{mul-pos}
 use native.Mathlib.Omega.{arith}
-use lib.Dec.{eqb, leb}
-use lib.Pow.{pow-pos, pow-mono, shl-lt}
-use Rattle.laws.specs.Bits.{down}
-use Rattle.machine.proofs.Fields.{IsGranule, widthOf, down-le, unit-most, field-most, writable, read-writable, read-within}
+use lib.Dec.{eqb}
+use lib.Pow.{pow-pos}
+use Rattle.machine.proofs.Bases.{address-fits, field-most}
+use Rattle.machine.proofs.Fields.{writable, read-writable, read-within}
 use Rattle.machine.specs.Answer.{readNumber, writtenNumber, rangedNumber}
-use Rattle.machine.specs.Operand.{copiesTop, granuleExponent, unitExponent, extend, addressOf, tgIn, fieldsIn, operandOf, fieldOf, isWritable, xtOf, xt2Of, wordsOf}
+use Rattle.machine.specs.Operand.{granuleExponent, addressOf, tgIn, fieldsIn, operandOf, fieldOf, isWritable, xtOf, xt2Of, wordsOf}
 use Rattle.machine.specs.Range.{lengthOf, rangeOf, isUnpredictable, rangedBy, rangedOf}
 use Rattle.machine.specs.declared.operand.Operand.{Operand}
 use Rattle.machine.specs.declared.operand.OperandRead.the-variants.{Fields, NoGranule}
 use Rattle.machine.specs.declared.operand.OperandWritten.the-variants.{Words, Refused}
 use Rattle.machine.specs.declared.operand.Told.{Told}
-
--- an n-bit number in units of 2^k is an address, extended or not
-pub extend-fits : (n k : ℕ) (s : Bool) (b : ℕ) → n + k ≤ 64 → b < 2 ^ n → extend n k s b < 2 ^ 64
-extend-fits n k s b h u = go (s && leb (2 ^ (n - 1)) b)
-  where
-    go : (c : Bool) → cond c (b * 2 ^ k + (2 ^ 64 - 2 ^ (n + k))) (b * 2 ^ k) < 2 ^ 64
-    go true = omega (arith, shl-lt n k u, pow-mono {i = n + k} {j = 64} h)
-    go false = omega (arith, shl-lt n k u, pow-mono {i = n + k} {j = 64} h)
-
-address-fits : (t : Told) (tg b : ℕ) → IsGranule tg → b < 2 ^ widthOf (t .tlbip) → addressOf t tg b < 2 ^ 64
-unfolding addressOf
-address-fits t tg b g h = go (t .tlbip) h
-  where
-    go : (p : Bool) → b < 2 ^ widthOf p →
-        cond p (extend 44 12 (copiesTop (t .form)) (down (granuleExponent tg - 12) b)) (extend 37 (unitExponent (t .unit64k) tg) (copiesTop (t .form)) b)
-        < 2 ^ 64
-    go true h =
-        let l : down (granuleExponent tg - 12) b < 2 ^ 44 = omega (arith, down-le (granuleExponent tg - 12) b) in
-        extend-fits 44 12 (copiesTop (t .form)) (down (granuleExponent tg - 12) b) (omega arith) l
-    go false h = extend-fits 37 (unitExponent (t .unit64k) tg) (copiesTop (t .form)) b (unit-most (t .unit64k) tg g) h
 
 -- a base that is read is an address
 pub read-base : (t : Told) (xt xt2 : ℕ) (o : Operand) → operandOf t xt xt2 ≡ Fields o → o .base < 2 ^ 64

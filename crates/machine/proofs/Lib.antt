@@ -3,6 +3,8 @@ pub mod Rows
 pub mod Trip
 pub mod State
 pub mod Reach
+pub mod Bases
+pub mod Cleared
 pub mod Fields
 pub mod Spans
 pub mod Covered

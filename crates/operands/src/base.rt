@@ -1,10 +1,11 @@
 // The base as a field of an operand and as an address. TG is 1 to 3 wherever it is asked for.
-ghost use Prim.Native.Nat.{_-_, _/_, _%_, _^_, _≤_, _<_};
+ghost use Prim.Native.Nat.{_+_, _-_, _/_, _%_, _^_, _≤_, _<_};
 ghost use mathlib.Core.Bool.{cond};
 ghost use mathlib.Core.Path.{_≡_};
 ghost use Rattle.laws.specs.Bits.{down};
 ghost use Rattle.machine.specs.Operand.{granuleExponent, unitExponent, extend, addressOf, fieldOf, baseIn};
 use crate::form::copies_top;
+use crate::granule::in_bytes;
 use machine::Told;
 
 // The unit of a TLBI base, as the TG whose granule it is.
@@ -15,27 +16,28 @@ fn unit_tg(unit64k: bool, tg: u64) -> u64
     if unit64k { 3 } else { tg }
 }
 
+// The copies of the top bit, above 37 bits in some unit.
+fn copies_above(unit: u64) -> u64
+    requires { ⌜ (1 ≤ unit) × (unit < 4) ⌝ }
+    ensures { λ r. ⌜ r ≡ 2 ^ 64 - 2 ^ (37 + granuleExponent unit) ⌝ }
+{
+    match unit {
+        1 => 0xFFFE000000000000,
+        2 => 0xFFF8000000000000,
+        _ => 0xFFE0000000000000,
+    }
+}
+
 fn tlbi_address(copied: bool, unit: u64, field: u64) -> u64
     requires { ⌜ (1 ≤ unit) × (unit < 4) × (field < 2 ^ 37) ⌝ }
     ensures { λ r. ⌜ r ≡ extend 37 (granuleExponent unit) copied field ⌝ }
 {
-    match unit {
-        1 => if copied & (0x1000000000 <= field) {
-            field * 0x1000 + 0xFFFE000000000000
-        } else {
-            field * 0x1000
-        },
-        2 => if copied & (0x1000000000 <= field) {
-            field * 0x4000 + 0xFFF8000000000000
-        } else {
-            field * 0x4000
-        },
-        _ => if copied & (0x1000000000 <= field) {
-            field * 0x10000 + 0xFFE0000000000000
-        } else {
-            field * 0x10000
-        },
+    let address = in_bytes(unit, field);
+    if copied & (0x1000000000 <= field) {
+        let copies = copies_above(unit);
+        return address + copies;
     }
+    address
 }
 
 // A field in units of 4 KiB without what is below the granule.

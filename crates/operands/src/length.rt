@@ -1,8 +1,9 @@
 // How long a range is, and where it ends.
 ghost use Prim.Native.Nat.{_+_, _*_, _^_, _≤_, _<_};
 ghost use mathlib.Core.Path.{_≡_};
-ghost use Rattle.machine.specs.Operand.{granuleExponent, Within};
+ghost use Rattle.machine.specs.Operand.{Within};
 ghost use Rattle.machine.specs.Range.{lengthOf, lastOf};
+use crate::granule::in_bytes;
 use machine::Operand;
 
 fn granules(num: u64, scale: u64) -> u64
@@ -17,23 +18,12 @@ fn granules(num: u64, scale: u64) -> u64
     }
 }
 
-fn bytes(tg: u64, granules: u64) -> u64
-    requires { ⌜ (1 ≤ tg) × (tg < 4) × (1 ≤ granules) × (granules ≤ 2097152) ⌝ }
-    ensures { λ r. ⌜ (r ≡ granules * 2 ^ granuleExponent tg) × (1 ≤ r) ⌝ }
-{
-    match tg {
-        1 => granules * 4096,
-        2 => granules * 16384,
-        _ => granules * 65536,
-    }
-}
-
 pub fn length_of(o: Operand) -> u64
     requires { ⌜ Within o ⌝ }
     ensures { λ r. ⌜ (r ≡ lengthOf o) × (1 ≤ r) ⌝ }
 {
     let n = granules(o.num, o.scale);
-    bytes(o.tg, n)
+    in_bytes(o.tg, n)
 }
 
 pub fn last_of(first: u64, length: u64) -> u64

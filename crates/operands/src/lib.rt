@@ -1,6 +1,7 @@
 // Operands: reader, writer, and the range that an operand means.
 mod base;
 mod form;
+mod granule;
 mod hint;
 mod length;
 mod multiple;

@@ -4,7 +4,7 @@ use mathlib.Core.Bool.{cond}
 use mathlib.Core.Path.{subst, _≡_, refl, sym}
 use native.Mathlib.Omega.{arith}
 use borrow.Author.Needs.{needs}
-use Rattle.machine.proofs.Fields.{field-most}
+use Rattle.machine.proofs.Bases.{field-most}
 use Rattle.machine.specs.Operand.{fieldOf}
 use Rattle.operands.proofs.base.field_of.Statement.{statement}
 use Rattle.operands.proofs.base.field_of.Tie as tie

@@ -1,4 +1,5 @@
 -- `operands::length::length_of` meets its contract.
+use native.Mathlib.Omega.{arith}
 use borrow.Author.Needs.{needs}
 use Rattle.machine.specs.Range.{lengthOf}
 use Rattle.operands.proofs.length.length_of.Statement.{statement}
@@ -7,12 +8,12 @@ use Rattle.operands.proofs.length.length_of.Tie as tie
 granules-requires : tie.Need-granules-requires
 granules-requires c κs = search needs
 
-bytes-requires : tie.Need-bytes-requires
-bytes-requires c κs = search needs
+in-bytes-requires : tie.Need-in-bytes-requires
+in-bytes-requires c κs = search needs
 
 returns : tie.Need-returns
 unfolding lengthOf
-returns c = (simp (c .bytes .ensures .0, c .before .granules .ensures .0), c .bytes .ensures .1)
+returns c = (simp (c .in-bytes .ensures .0, c .before .granules .ensures .0), omega (arith, c .in-bytes .ensures .1, c .before .granules .ensures .1))
 
 pub length-of-spec : {M : Type 1} → statement M
-length-of-spec = tie.close (tie.spec granules-requires bytes-requires returns)
+length-of-spec = tie.close (tie.spec granules-requires in-bytes-requires returns)
