@@ -1,12 +1,16 @@
--- A word by its bits: masks of them in parts.
+-- A word by its bits, in parts, and masks of them.
 use Prim.Native.Nat.{ℕ, zero, suc, _+_, _*_, _/_, _%_, _^_, _<_, _≤_}
 use mathlib.Core.Bool.{Bool, true, false, cond, _&&_}
 use mathlib.Core.Path.{_≡_, refl, sym, ap, ap₂, _∙_}
 use native.Mathlib.Nat.{pow-succ', mul-assoc, mod-lt}
 use native.Mathlib.Omega.{arith}
 use lib.Dec.{eqb}
-use lib.Pow.{mod-pow-add, shr-shr}
+use lib.Pow.{mod-pow-add, shr-shr, split}
 use Rattle.laws.specs.Mask.{bitOf, maskFrom}
+
+-- the bits from l on are the next m, and those above them
+pub digit : (x l m : ℕ) → x / 2 ^ l ≡ x / 2 ^ (l + m) * 2 ^ m + x / 2 ^ l % 2 ^ m
+digit x l m = sym (split (x / 2 ^ l) m) ∙ ap (λ (y : ℕ). y * 2 ^ m + x / 2 ^ l % 2 ^ m) (shr-shr x l m)
 
 -- a mask of n and then m numbers
 pub mask-cut : (f : ℕ → Bool) (p n m : ℕ) → maskFrom f p (n + m) ≡ maskFrom f p n + 2 ^ n * maskFrom f (p + n) m

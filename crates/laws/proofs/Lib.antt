@@ -4,3 +4,4 @@ pub mod Every
 pub mod Mask
 pub mod Bits
 pub mod Aligned
+pub mod Slots

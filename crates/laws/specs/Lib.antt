@@ -2,3 +2,4 @@
 pub mod Every
 pub mod Mask
 pub mod Bits
+pub mod Slots
