@@ -7,6 +7,9 @@ pub mod Bases
 pub mod Cleared
 pub mod Fields
 pub mod Spans
+pub mod Tags
+pub mod Inserting
+pub mod Found
 pub mod Covered
 pub mod Alike
 pub mod Pages

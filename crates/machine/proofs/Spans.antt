@@ -104,6 +104,9 @@ pub span-tg : (wide : Bool) (tg : ℕ) (l : ℤ) → hasSpan wide tg l ≡ true 
 unfolding hasSpan
 span-tg wide tg l h = and-0 (isGranule tg) (isLevel l) (and-0 (isGranule tg && isLevel l) _ h)
 
+pub span-tg-most : (wide : Bool) (tg : ℕ) (l : ℤ) → hasSpan wide tg l ≡ true → tg ≤ 3
+span-tg-most wide tg l h = leb-true tg 3 (and-1 (leb 1 tg) (leb tg 3) (span-tg wide tg l h))
+
 pub span-level : (wide : Bool) (tg : ℕ) (l : ℤ) → hasSpan wide tg l ≡ true → isLevel l ≡ true
 unfolding hasSpan
 span-level wide tg l h = and-1 (isGranule tg) (isLevel l) (and-0 (isGranule tg && isLevel l) _ h)

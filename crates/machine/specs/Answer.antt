@@ -9,6 +9,10 @@ use Rattle.machine.specs.declared.operand.Ranged.{Ranged}
 use Rattle.machine.specs.declared.operand.Ranged.the-variants as ranged
 use Rattle.machine.specs.declared.scope.Access.{Access}
 use Rattle.machine.specs.declared.scope.Access.the-variants.{Undefined, Trapped, NoEffect, Runs}
+use Rattle.machine.specs.declared.table.Inserted.{Inserted}
+use Rattle.machine.specs.declared.table.Inserted.the-variants as inserted
+use Rattle.machine.specs.declared.table.LookedUp.{LookedUp}
+use Rattle.machine.specs.declared.table.LookedUp.the-variants as looked
 
 -- "3 UNDEFINED", "4 trapped to EL2", "5 ends without effect"; 0 says only that no access rule refuses
 abbrev pub accessNumber : Access → ℕ
@@ -54,3 +58,41 @@ abbrev pub rangedNumber : Ranged → ℕ
 rangedNumber (ranged.Covers o r) = 0
 rangedNumber ranged.NoGranule = 6
 rangedNumber ranged.Unpredictable = 7
+
+-- "Insert: 13, 8, 9.", and the slot
+abbrev pub insertedNumber : Inserted → ℕ
+insertedNumber (inserted.At k) = 0
+insertedNumber inserted.BadShape = 13
+insertedNumber inserted.Illegal = 8
+insertedNumber inserted.Full = 9
+
+abbrev pub insertedSlot : Inserted → ℕ
+insertedSlot (inserted.At k) = k
+insertedSlot inserted.BadShape = 0
+insertedSlot inserted.Illegal = 0
+insertedSlot inserted.Full = 0
+
+-- "Look up: 13, 2, 14.", and slot, output word and slots examined
+abbrev pub lookedUpNumber : LookedUp → ℕ
+lookedUpNumber (looked.Found m) = 0
+lookedUpNumber looked.BadShape = 13
+lookedUpNumber looked.BadState = 2
+lookedUpNumber (looked.NotFound n) = 14
+
+abbrev pub lookedUpSlot : LookedUp → ℕ
+lookedUpSlot (looked.Found m) = m .slot
+lookedUpSlot looked.BadShape = 0
+lookedUpSlot looked.BadState = 0
+lookedUpSlot (looked.NotFound n) = 0
+
+abbrev pub lookedUpOut : LookedUp → ℕ
+lookedUpOut (looked.Found m) = m .out
+lookedUpOut looked.BadShape = 0
+lookedUpOut looked.BadState = 0
+lookedUpOut (looked.NotFound n) = 0
+
+abbrev pub lookedUpExamined : LookedUp → ℕ
+lookedUpExamined (looked.Found m) = m .examined
+lookedUpExamined looked.BadShape = 0
+lookedUpExamined looked.BadState = 0
+lookedUpExamined (looked.NotFound n) = n

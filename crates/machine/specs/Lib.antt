@@ -6,6 +6,9 @@ pub mod Operand
 pub mod Span
 pub mod Range
 pub mod Asked
+pub mod Entry
+pub mod Tag
+pub mod Table
 pub mod Answer
 pub mod Pages
 pub mod Text

@@ -1,9 +1,13 @@
-// The book's plain types: an operation, the processor state, an operand, and what reading them and the access rules answer.
+// The book's plain types: an operation, the processor state, an operand, an entry, and what the calls over them answer.
+mod entry;
 mod operand;
 mod operation;
 mod processor;
 mod scope;
+mod table;
 
+pub use entry::Company;
+pub use entry::Entry;
 pub use operand::Form;
 pub use operand::Operand;
 pub use operand::OperandRead;
@@ -32,3 +36,6 @@ pub use scope::Access;
 pub use scope::Regime;
 pub use scope::Scope;
 pub use scope::Security;
+pub use table::Inserted;
+pub use table::LookedUp;
+pub use table::Match;

@@ -13,4 +13,5 @@ mod write;
 pub use range::ranged;
 pub use read::read_operand;
 pub use register::asked;
+pub use register::is_two_ranges;
 pub use write::write_operand;

@@ -12,7 +12,7 @@ use machine::Told;
 use processor::is_secure;
 use processor::is_unit_64k;
 
-fn is_two_ranges(regime: Regime) -> bool
+pub fn is_two_ranges(regime: Regime) -> bool
     ensures { λ r. ⌜ r ≡ isTwoRanges regime ⌝ }
 {
     match regime {
