@@ -1,0 +1,70 @@
+-- `entries::tag::tag_of` meets its contract.
+use mathlib.Core.Path.{ap, _∙_}
+use native.Mathlib.Omega.{arith}
+use mir.Syntax.{w8}
+use mir.ValLaws.{toZ-ofZ}
+use borrow.Author.Needs.{needs, sfits-of}
+use Rattle.machine.proofs.Spans.{span-tg-most, span-level}
+use Rattle.machine.proofs.Tags.{legal}
+use Rattle.machine.specs.Span.{isLevel, heightOf}
+use Rattle.machine.specs.Tag.{tagOf}
+use Rattle.entries.proofs.tag.tag_of.Statement.{statement}
+use Rattle.entries.proofs.tag.tag_of.Tie as tie
+
+company-tag-requires : tie.Need-company-tag-requires
+company-tag-requires c κs = search needs
+
+flag-requires : tie.Need-flag-requires
+flag-requires c κs = search needs
+
+flag-requires-2 : tie.Need-flag-requires-2
+flag-requires-2 c κs = search needs
+
+height-of-requires : tie.Need-height-of-requires
+height-of-requires c κs =
+    let e = c .before .before .before .before .args .entry in
+    ap isLevel (toZ-ofZ w8 (e .level) (search needs)) ∙ span-level (e .wide) (e .granule) (e .level) (legal e (c .before .before .before .before .pre) .span)
+
+flag-requires-3 : tie.Need-flag-requires-3
+flag-requires-3 c κs = search needs
+
+flag-requires-4 : tie.Need-flag-requires-4
+flag-requires-4 c κs = search needs
+
+cast-placed : tie.Need-cast-placed
+cast-placed c = search needs
+
+cast-placed-2 : tie.Need-cast-placed-2
+cast-placed-2 c = search needs
+
+cast-placed-3 : tie.Need-cast-placed-3
+cast-placed-3 c = search needs
+
+placed-requires : tie.Need-placed-requires
+placed-requires c κs =
+    let e = c .before .before .before .before .before .before .before .before .before .before .args .entry in
+    let k = legal e (c .before .before .before .before .before .before .before .before .before .before .pre) in
+    (c .before .before .before .before .before .before .before .before .before .company-tag .ensures .1, span-tg-most (e .wide) (e .granule) (e .level) (k .span), omega arith, c .before .before .before .before .before .before .before .before .flag .ensures .1, c .before .before .before .before .before .before .before .flag2 .ensures .1, c .before .before .before .before .before .height-of .ensures .1, c .before .before .before .before .flag3 .ensures .1, c .before .before .before .flag4 .ensures .1, k .processor)
+
+returns : tie.Need-returns
+unfolding tagOf
+returns c =
+    let e = c .before .before .before .before .before .before .before .before .before .before .before .args .entry in
+    let z = toZ-ofZ w8 (e .level) (sfits-of (c .before .before .before .before .before .before .before .struct-told .given .1 .1 .1 .1 .1 .1 .0 .1)) in
+    simp (c .placed .ensures, c .before .before .before .before .before .before .before .before .before .before .company-tag .ensures .0, c .before .before .before .before .before .before .before .before .before .flag .ensures .0, c .before .before .before .before .before .before .before .before .flag2 .ensures .0, c .before .before .before .before .before .before .height-of .ensures .0 ∙ ap heightOf z, c .before .before .before .before .before .flag3 .ensures .0, c .before .before .before .before .flag4 .ensures .0)
+
+pub tag-of-spec : {M : Type 1} → statement M
+tag-of-spec =
+    tie.close
+    (tie.spec
+    company-tag-requires
+    flag-requires
+    flag-requires-2
+    height-of-requires
+    flag-requires-3
+    flag-requires-4
+    cast-placed
+    cast-placed-2
+    cast-placed-3
+    placed-requires
+    returns)

@@ -1,0 +1,78 @@
+// The tag of an entry.
+ghost use Prim.Native.Nat.{_+_, _*_, _^_, _<_, _≤_};
+ghost use mathlib.Core.Bool.{true};
+ghost use mathlib.Core.Path.{_≡_};
+ghost use Rattle.machine.specs.Entry.{isLegal};
+ghost use Rattle.machine.specs.Tag.{companyTag, tagOf};
+use crate::number::flag;
+use crate::number::regime_number;
+use crate::number::security_number;
+use machine::Company;
+use machine::Entry;
+use spans::height_of;
+
+pub fn company_tag(company: Company) -> u64
+    ensures { λ r. ⌜ (r ≡ companyTag company) × (r < 2 ^ 26) ⌝ }
+{
+    let regime = company.regime;
+    let security = company.security;
+    let regime = regime_number(regime);
+    let security = security_number(security);
+    let stage = flag(company.stage2);
+    let space = flag(company.ns);
+    1
+        + regime * 0x10
+        + security * 0x40
+        + (company.vmid as u64) * 0x100
+        + stage * 0x1000000
+        + space * 0x2000000
+}
+
+pub fn tag_of(entry: Entry) -> u64
+    requires { ⌜ isLegal entry ≡ true ⌝ }
+    ensures { λ r. ⌜ r ≡ tagOf entry ⌝ }
+{
+    let company = company_tag(entry.company);
+    let global = flag(entry.global);
+    let wide = flag(entry.wide);
+    let height = height_of(entry.level);
+    let leaf = flag(entry.leaf);
+    let xs = flag(entry.xs);
+    placed(
+        company,
+        entry.granule as u64,
+        entry.asid as u64,
+        global,
+        wide,
+        height,
+        leaf,
+        xs,
+        entry.processor as u64,
+    )
+}
+
+// The numbers of a tag in their places.
+fn placed(
+    company: u64,
+    granule: u64,
+    asid: u64,
+    global: u64,
+    wide: u64,
+    height: u64,
+    leaf: u64,
+    xs: u64,
+    processor: u64,
+) -> u64
+    requires { ⌜ (company < 2 ^ 26) × (granule ≤ 3) × (asid < 2 ^ 16) × (global < 2) × (wide < 2) × (height ≤ 4) × (leaf < 2) × (xs < 2) × (processor ≤ 7) ⌝ }
+    ensures { λ r. ⌜ r ≡ company + granule * 2 ^ 26 + asid * 2 ^ 28 + global * 2 ^ 44 + wide * 2 ^ 45 + height * 2 ^ 46 + leaf * 2 ^ 49 + xs * 2 ^ 50 + processor * 2 ^ 51 ⌝ }
+{
+    company
+        + granule * 0x4000000
+        + asid * 0x10000000
+        + global * 0x100000000000
+        + wide * 0x200000000000
+        + height * 0x400000000000
+        + leaf * 0x2000000000000
+        + xs * 0x4000000000000
+        + processor * 0x8000000000000
+}

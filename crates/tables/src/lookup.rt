@@ -1,0 +1,109 @@
+// Look up: the lowest slot that translates an address.
+ghost use Prim.Native.Nat.{_%_, _^_, _<_};
+ghost use mathlib.Core.Bool.{true, not, _&&_, _||_};
+ghost use mathlib.Core.Path.{_≡_};
+ghost use lib.Dec.{eqb};
+ghost use lib.ListN.{length};
+ghost use Rattle.laws.specs.Slots.{first};
+ghost use Rattle.machine.specs.Entry.{hasAsids, spanOf, isLegal};
+ghost use Rattle.machine.specs.Span.{inSpan};
+ghost use Rattle.machine.specs.Table.{stage1Of, matches, lookedUpOf};
+ghost use Rattle.machine.specs.Tag.{layout, companyAt};
+use crate::shape::is_table;
+use entries::company_tag;
+use entries::entry_at;
+use entries::has_asids;
+use entries::is_entry;
+use machine::Company;
+use machine::Entry;
+use machine::LookedUp;
+use machine::Match;
+use machine::Regime;
+use machine::State;
+use processor::is_bad;
+use processor::security_in;
+use processor::vmid_in;
+use spans::exponent_of;
+use spans::in_span;
+
+pub fn look_up(table: &[u64], state: State, regime: Regime, asid: u16, address: u64) -> LookedUp
+    ensures { λ r. ⌜ r ≡ lookedUpOf state regime asid address (now (table .entry)) ⌝ }
+{
+    if !is_table(table.len()) {
+        return LookedUp::BadShape;
+    }
+    if is_bad(state) {
+        return LookedUp::BadState;
+    }
+    let company = stage1_of(state, regime);
+    let key = company_tag(company);
+    let own = state.board.own;
+    let k = first_match(table, key, own, asid, address);
+    if k < table.len() / 3 {
+        return LookedUp::Found(Match {
+            slot: k,
+            out: table[3 * k + 2],
+            examined: k + 1,
+        });
+    }
+    LookedUp::NotFound(table.len() / 3)
+}
+
+// Stage 1 of a regime, with the VMID and the security state that an operation would have.
+fn stage1_of(state: State, regime: Regime) -> Company
+    ensures { λ r. ⌜ (r ≡ stage1Of state regime) × (r .vmid < 2 ^ 16) ⌝ }
+{
+    let security = security_in(state, regime);
+    let vmid = vmid_in(state, regime);
+    Company {
+        regime,
+        security,
+        vmid,
+        stage2: false,
+        ns: false,
+    }
+}
+
+// The lowest slot that matches, or the number of slots.
+fn first_match(table: &[u64], key: u64, own: u8, asid: u16, address: u64) -> usize
+    requires { ⌜ (length (now table) % 3 ≡ 0) × (key % 2 ^ 4 ≡ layout) × (key < 2 ^ 26) ⌝ }
+    ensures { λ r. ⌜ r ≡ first (matches (companyAt key) own asid address) (now (table .entry)) ⌝ }
+{
+    let mut i = 0;
+    let mut k = 0;
+    while i < table.len() {
+        if is_match(key, own, asid, address, table[i], table[i + 1]) {
+            return k;
+        }
+        i += 3;
+        k += 1;
+    }
+    k
+}
+
+// The key is the part of a tag that says whose a slot is: one compare turns other companies' slots away.
+fn is_match(key: u64, own: u8, asid: u16, address: u64, base: u64, tag: u64) -> bool
+    requires { ⌜ (key % 2 ^ 4 ≡ layout) × (key < 2 ^ 26) ⌝ }
+    ensures { λ r. ⌜ r ≡ matches (companyAt key) own asid address base tag 0 ⌝ }
+{
+    if tag % 0x4000000 != key {
+        return false;
+    }
+    if !is_entry(base, tag) {
+        return false;
+    }
+    let entry = entry_at(base, tag);
+    holds(entry, own, asid, address)
+}
+
+// An entry of the company translates the address.
+fn holds(entry: Entry, own: u8, asid: u16, address: u64) -> bool
+    requires { ⌜ isLegal entry ≡ true ⌝ }
+    ensures { λ r. ⌜ r ≡ (entry .leaf && eqb (entry .processor) own && inSpan (entry .base) (spanOf entry) address && (eqb (entry .asid) asid || entry .global || not (hasAsids (entry .company)))) ⌝ }
+{
+    let company = entry.company;
+    let asids = has_asids(company);
+    let k = exponent_of(entry.wide, entry.granule as u64, entry.level);
+    let inside = in_span(entry.base, k, address);
+    entry.leaf & (entry.processor == own) & inside & ((entry.asid == asid) | entry.global | !asids)
+}
