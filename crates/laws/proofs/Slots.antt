@@ -11,7 +11,7 @@ use borrow.Author.Tests.{ltb-true, ltb-false}
 use Rattle.laws.specs.Slots.{slots, holdsAt, first, put}
 
 -- equal numbers pass alike
-slot-same : (p : ℕ → ℕ → ℕ → Bool) {a b c x y z : ℕ} → a ≡ x → b ≡ y → c ≡ z → p a b c ≡ p x y z
+pub slot-same : (p : ℕ → ℕ → ℕ → Bool) {a b c x y z : ℕ} → a ≡ x → b ≡ y → c ≡ z → p a b c ≡ p x y z
 slot-same p e f g = cc
 
 -- from word i on, a list is the slot there and what follows it

@@ -10,6 +10,7 @@ pub mod Spans
 pub mod Tags
 pub mod Inserting
 pub mod Found
+pub mod Corners
 pub mod Covered
 pub mod Alike
 pub mod Pages

@@ -1,12 +1,13 @@
 -- A tag and the entry that stands in it: each gives the other.
 use Prim.Native.Nat.{ℕ, zero, suc, _+_, _*_, _/_, _%_, _^_, _<_, _≤_}
 use mathlib.Core.Bool.{Bool, true, false, not, _&&_, _||_}
+use mathlib.Core.Logic.{_↔_}
 use mathlib.Core.Path.{_≡_, refl, sym, ap, ap₂, _∙_}
 use native.Mathlib.Nat.{mod-lt}
 use native.Mathlib.Omega.{arith}
 use lib.Dec.{eqb, ltb, leb}
 use lib.IntN.{ℤ, pos, _-ℤ_}
-use borrow.Author.Tests.{ltb-true, ltb-false, leb-true, eqb-true, eqb-false, le-leb, eq-eqb, ne-eqb}
+use borrow.Author.Tests.{ltb-true, ltb-false, leb-true, eqb-true, eqb-false, le-leb, eq-eqb, ne-eqb, not-false}
 use Rattle.laws.proofs.Bits.{digit}
 use Rattle.laws.proofs.Truth.{and-0, and-1}
 use Rattle.laws.specs.Bits.{bits}
@@ -14,7 +15,7 @@ use Rattle.laws.specs.Mask.{bitOf}
 use Rattle.machine.proofs.Spans.{by-level, span-tg-most, span-level}
 use Rattle.machine.specs.Entry.{isCompany, hasAsids, isPlaced, inReach, spanOf, isLegal}
 use Rattle.machine.specs.Span.{isLevel, heightOf, hasSpan}
-use Rattle.machine.specs.Table.{sameCompany}
+use Rattle.machine.specs.Table.{isEmpty, sameCompany}
 use Rattle.machine.specs.Tag.{layout, regimeNumber, securityNumber, flag, companyTag, tagOf, regimeAt, securityAt, companyAt, entryAt, isEntry}
 use Rattle.machine.specs.declared.entry.Company.{Company}
 use Rattle.machine.specs.declared.entry.Entry.{Entry}
@@ -321,6 +322,28 @@ reads-written base tag h =
     let l = isLegal (entryAt base tag) in
     let w = eqb (tagOf (entryAt base tag)) tag in
     ((mod-lt (tag / 2 ^ 8) (omega arith), mod-lt (tag / 2 ^ 28) (omega arith)), and-0 l w h, refl, eqb-true _ _ (and-1 l w h))
+
+-- a slot is written where a legal entry and an output word give its three words
+pub record Written (a b c : ℕ) : Type 0 where
+  pub entry : Entry
+  pub output : ℕ
+  pub sized : Sized entry
+  pub ok : isLegal entry ≡ true
+  pub base : entry .base ≡ a
+  pub tag : tagOf entry ≡ b
+  pub word : output ≡ c
+
+-- and reads as an entry exactly then: "A slot that insert couldn't have written makes no sense and reads as empty"
+pub reads-exactly : (a b c : ℕ) → (isEmpty a b c ≡ false) ↔ Written a b c
+reads-exactly a b c = (there, back)
+  where
+    there : isEmpty a b c ≡ false → Written a b c
+    there h =
+        let w = reads-written a b (not-false (isEntry a b) h) in
+        record { entry = entryAt a b; output = c; sized = w .0; ok = w .1; base = w .2; tag = w .3; word = refl }
+
+    back : Written a b c → isEmpty a b c ≡ false
+    back w = ap₂ (λ (x y : ℕ). isEmpty x y c) (sym (w .base)) (sym (w .tag)) ∙ ap not (written-reads (w .entry) (w .sized) (w .ok) .0)
 
 -- "as all zeros does": a tag of zero is nobody's
 pub zero-empty : (base : ℕ) → isEntry base 0 ≡ false
