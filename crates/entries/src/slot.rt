@@ -45,6 +45,6 @@ pub fn entry_at(base: u64, tag: u64) -> Entry
 pub fn is_entry(base: u64, tag: u64) -> bool
     ensures { λ r. ⌜ r ≡ isEntry base tag ⌝ }
 {
-    let own = (tag % 16 == 1) & (tag < 0x40000000000000);
-    is_legal(entry_at(base, tag)) & own
+    let laid_out = (tag % 16 == 1) & (tag < 0x40000000000000);
+    is_legal(entry_at(base, tag)) & laid_out
 }

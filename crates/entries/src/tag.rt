@@ -38,7 +38,7 @@ pub fn tag_of(entry: Entry) -> u64
     let height = height_of(entry.level);
     let leaf = flag(entry.leaf);
     let xs = flag(entry.xs);
-    placed(
+    in_places(
         company,
         entry.granule as u64,
         entry.asid as u64,
@@ -52,7 +52,7 @@ pub fn tag_of(entry: Entry) -> u64
 }
 
 // The numbers of a tag in their places.
-fn placed(
+fn in_places(
     company: u64,
     granule: u64,
     asid: u64,

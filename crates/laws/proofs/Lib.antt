@@ -5,3 +5,5 @@ pub mod Mask
 pub mod Bits
 pub mod Aligned
 pub mod Slots
+pub mod Clearing
+pub mod Sevens

@@ -2,13 +2,13 @@
 use Prim.Native.Nat.{ℕ, zero, suc, _+_, _*_, _/_, _%_, _<_, _≤_}
 use mathlib.Core.Bool.{Bool, true, false, cond}
 use mathlib.Core.List.{List, [], _∷_}
-use mathlib.Core.Path.{_≡_, refl, ap, _∙_}
+use mathlib.Core.Path.{_≡_, refl, sym, ap, _∙_}
 use native.Mathlib.Omega.{arith}
 use lib.Dec.{ltb}
 use lib.ListN.{length, getD, drop, set, length-set, drop-of-length-le}
 use lib.Seq.{drop-cons, getD-set-same, getD-set-other}
 use borrow.Author.Tests.{ltb-true, ltb-false}
-use Rattle.laws.specs.Slots.{slots, holdsAt, first, put}
+use Rattle.laws.specs.Slots.{slots, holdsAt, first, some, put}
 
 -- equal numbers pass alike
 pub slot-same : (p : ℕ → ℕ → ℕ → Bool) {a b c x y z : ℕ} → a ≡ x → b ≡ y → c ≡ z → p a b c ≡ p x y z
@@ -70,18 +70,11 @@ unfolding first
 seek-end p l i k h s = let (m, b, a, r) = s in let f : first p (drop i l) ≡ 0 = ap (first p) (drop-of-length-le l h) in omega arith
 
 -- a slot of a longer list is a slot of the rest
-three : (k : ℕ) → 3 * suc k ≡ suc (suc (suc (3 * k)))
-three k = omega arith
-
-next-holds : (p : ℕ → ℕ → ℕ → Bool) (a b c : ℕ) (l : List ℕ) (k : ℕ) → holdsAt p (a ∷ b ∷ c ∷ l) (suc k) ≡ holdsAt p l k
-next-holds p a b c l k =
-    let e0 = three k in
-    let e1 : 3 * suc k + 1 ≡ suc (suc (suc (3 * k + 1))) = omega arith in
-    let e2 : 3 * suc k + 2 ≡ suc (suc (suc (3 * k + 2))) = omega arith in
-    let m = a ∷ b ∷ c ∷ l in
-    ap (λ (j : ℕ). p (getD m j 0) (getD m (3 * suc k + 1) 0) (getD m (3 * suc k + 2) 0)) e0
-    ∙ ap (λ (j : ℕ). p (getD l (3 * k) 0) (getD m j 0) (getD m (3 * suc k + 2) 0)) e1
-    ∙ ap (λ (j : ℕ). p (getD l (3 * k) 0) (getD l (3 * k + 1) 0) (getD m j 0)) e2
+pub next-holds : (p : ℕ → ℕ → ℕ → Bool) (a b c : ℕ) (l : List ℕ) (k : ℕ) → holdsAt p (a ∷ b ∷ c ∷ l) (suc k) ≡ holdsAt p l k
+next-holds p a b c l k = slot-same p (word (3 * suc k) (3 * k) (omega arith)) (word (3 * suc k + 1) (3 * k + 1) (omega arith)) (word (3 * suc k + 2) (3 * k + 2) (omega arith))
+  where
+    word : (i j : ℕ) → i ≡ suc (suc (suc j)) → getD (a ∷ b ∷ c ∷ l) i 0 ≡ getD l j 0
+    word i j e = ap (λ (n : ℕ). getD (a ∷ b ∷ c ∷ l) n 0) e
 
 -- the test holds at no slot before the first
 pub first-none : (p : ℕ → ℕ → ℕ → Bool) (l : List ℕ) (k : ℕ) → k < first p l → holdsAt p l k ≡ false
@@ -160,3 +153,14 @@ pub put-keeps : (p : ℕ → ℕ → ℕ → Bool) (k a b c : ℕ) (l : List ℕ
 put-keeps p k a b c l j d =
     slot-same p (put-other k a b c l (3 * j) (λ e. d (omega arith))) (put-other k a b c l (3 * j + 1) (λ e. d (omega arith)))
     (put-other k a b c l (3 * j + 2) (λ e. d (omega arith)))
+
+-- there is one exactly if some slot passes
+pub some-none : (p : ℕ → ℕ → ℕ → Bool) (l : List ℕ) → some p l ≡ false → (k : ℕ) → k < slots l → holdsAt p l k ≡ false
+some-none p l h k n = first-none p l k (omega (arith, ltb-false (first p l) (slots l) h))
+
+pub none-some : (p : ℕ → ℕ → ℕ → Bool) (l : List ℕ) → ((k : ℕ) → k < slots l → holdsAt p l k ≡ false) → some p l ≡ false
+none-some p l none = go (some p l) refl
+  where
+    go : (b : Bool) → some p l ≡ b → b ≡ false
+    go true h = let low : first p l < slots l = ltb-true (first p l) (slots l) h in sym (first-holds p l low) ∙ none (first p l) low
+    go false h = refl

@@ -2,12 +2,13 @@
 use Prim.Native.Nat.{ℕ, _+_, _*_, _%_, _^_, _<_, _≤_}
 use mathlib.Core.Bool.{Bool, true, false, cond, not, _&&_, _||_}
 use mathlib.Core.List.{List}
+use mathlib.Core.Logic.{_↔_}
 use mathlib.Core.Path.{_≡_, refl, sym, ap, subst, _∙_}
 use native.Mathlib.Omega.{arith}
 use lib.Dec.{eqb, ltb, leb}
 use lib.ListN.{getD}
 use borrow.Author.Tests.{ltb-true, eqb-true, lt-ltb, le-ltb, eq-eqb, ne-eqb}
-use Rattle.laws.proofs.Slots.{slot-same, first-none, first-holds, first-is}
+use Rattle.laws.proofs.Slots.{slot-same, first-none, first-holds, first-is, some-none, none-some}
 use Rattle.laws.proofs.Truth.{and-0, and-1}
 use Rattle.laws.specs.Slots.{slots, holdsAt, first, some}
 use Rattle.machine.proofs.Inserting.{taken, insert-done, others-read}
@@ -16,7 +17,7 @@ use Rattle.machine.specs.Answer.{lookedUpNumber}
 use Rattle.machine.specs.Entry.{hasAsids, spanOf, isLegal}
 use Rattle.machine.specs.Span.{inSpan}
 use Rattle.machine.specs.State.{badState}
-use Rattle.machine.specs.Table.{isTable, insertedOf, insertTable, sameCompany, stage1Of, translates, matches, foundAt, lookedUpOf}
+use Rattle.machine.specs.Table.{hasShape, isTable, insertedOf, insertTable, sameCompany, stage1Of, holdsAddress, translates, matches, foundAt, lookedUpOf}
 use Rattle.machine.specs.Tag.{layout, tagOf, companyAt, entryAt, isEntry}
 use Rattle.machine.specs.declared.entry.Company.{Company}
 use Rattle.machine.specs.declared.entry.Entry.{Entry}
@@ -40,11 +41,6 @@ entry-layout base tag h =
     let w = eqb (tagOf (entryAt base tag)) tag in
     eqb-true (tag % 2 ^ 4) layout (and-0 (eqb (tag % 2 ^ 4) layout) (ltb tag (2 ^ 54)) (sym (tag-whole base tag) ∙ and-1 l w h))
 
--- what is left to test of an entry of the company
-abbrev pub translatesRest : ℕ → ℕ → ℕ → Entry → Bool
-translatesRest own asid address e =
-    e .leaf && eqb (e .processor) own && inSpan (e .base) (spanOf e) address && (eqb (e .asid) asid || e .global || not (hasAsids (e .company)))
-
 -- a slot whose lower part is not the company's matches nothing
 pub match-other : (key own asid address base tag out : ℕ) → key % 2 ^ 4 ≡ layout → key < 2 ^ 26 → (tag % 2 ^ 26 ≡ key → ⊥) →
     matches (companyAt key) own asid address base tag out ≡ false
@@ -59,7 +55,7 @@ match-other key own asid address base tag out hk hl d = go (isEntry base tag) re
 
 -- and one whose lower part is matches if the rest holds
 pub match-own : (key own asid address base tag out : ℕ) → key % 2 ^ 4 ≡ layout → key < 2 ^ 26 → tag % 2 ^ 26 ≡ key → isEntry base tag ≡ true →
-    matches (companyAt key) own asid address base tag out ≡ translatesRest own asid address (entryAt base tag)
+    matches (companyAt key) own asid address base tag out ≡ holdsAddress own asid address (entryAt base tag)
 unfolding matches translates entryAt
 match-own key own asid address base tag out hk hl e h =
     let s : sameCompany (companyAt tag) (companyAt key) ≡ true = company-key key tag hk hl (entry-layout base tag h) ∙ eq-eqb (tag % 2 ^ 26) key e in
@@ -167,9 +163,28 @@ inserted-found e out l k st r asid address z h good t none =
     let p = sought st r asid address in
     let new = insertTable e out l in
     let it = taken e out l k h in
-    let shape : isTable new ≡ true = ap (λ (n : ℕ). eqb (n % 3) 0 && leb n 6144) (it .as-long) ∙ insert-done e l k h .0 in
+    let shape : isTable new ≡ true = ap (hasShape 6144) (it .as-long) ∙ insert-done e l k h .0 in
     let within : k < slots new = omega (arith, it .within, it .as-long) in
     let here : holdsAt p new k ≡ true = slot-same p (it .base) (it .tag) (it .output) ∙ written-matches (stage1Of st r) (st .board .own) asid address e out z (insert-done e l k h .1) ∙ t in
     let before : (j : ℕ) → j < k → holdsAt p new j ≡ false = λ (j : ℕ) (n : j < k). others-read e out l k h p j (λ (q : j ≡ k). omega arith) ∙ none j n in
     let place : first p new ≡ k = first-is p new k within before here in
     lookup-0 st r asid address new k shape good (sym place) within ∙ ap (λ (o : ℕ). Found (record { slot = k; out = o; examined = k + 1 })) (it .output)
+
+-- "14: address not found", exactly if no slot matches; "or all"
+pub unseen : (st : State) (r : Regime) (asid address : ℕ) (l : List ℕ) → isTable l ≡ true → badState st ≡ false →
+    (lookedUpOf st r asid address l ≡ NotFound (slots l)) ↔ ((k : ℕ) → k < slots l → holdsAt (sought st r asid address) l k ≡ false)
+unfolding lookedUpOf
+unseen st r asid address l shape good =
+    (there, λ (none : (k : ℕ) → k < slots l → holdsAt (sought st r asid address) l k ≡ false). simp (shape, good, none-some (sought st r asid address) l none))
+  where
+    p : ℕ → ℕ → ℕ → Bool
+    p = sought st r asid address
+
+    there : lookedUpOf st r asid address l ≡ NotFound (slots l) → (k : ℕ) → k < slots l → holdsAt p l k ≡ false
+    there h = go (some p l) refl
+      where
+        go : (b : Bool) → some p l ≡ b → (k : ℕ) → k < slots l → holdsAt p l k ≡ false
+        go true s =
+            let at : lookedUpOf st r asid address l ≡ foundAt (first p l) l = simp (shape, good, s) in
+            absurd (let z : _≡_ {A = ℕ} 14 0 = ap lookedUpNumber (sym h ∙ at) in omega arith)
+        go false s = some-none p l s

@@ -2,18 +2,20 @@
 use Prim.Native.Nat.{ℕ, _+_, _*_, _/_, _%_, _<_, _≤_}
 use mathlib.Core.Bool.{Bool, true, false, cond, not}
 use mathlib.Core.List.{List}
-use mathlib.Core.Path.{_≡_, refl, sym, ap, subst, _∙_}
+use mathlib.Core.Logic.{_↔_}
+use mathlib.Core.Path.{_≡_, refl, sym, ap, ap₂, subst, _∙_}
 use native.Mathlib.Omega.{arith}
 use lib.Dec.{eqb, leb}
 use lib.ListN.{length, getD}
 use borrow.Author.Tests.{eqb-true, leb-true, ltb-true, lt-ltb, le-ltb}
-use Rattle.laws.proofs.Slots.{first-none, first-holds, put-length, put-here, put-other, put-keeps}
+use Rattle.laws.proofs.Slots.{first-none, first-holds, first-is, some-none, none-some, put-length, put-here, put-other, put-keeps}
 use Rattle.laws.proofs.Truth.{and-0, and-1}
 use Rattle.laws.specs.Slots.{slots, holdsAt, first, some, put}
 use Rattle.machine.specs.Answer.{insertedNumber, insertedSlot}
 use Rattle.machine.specs.Entry.{isLegal}
 use Rattle.machine.specs.Table.{isTable, isEmpty, filled, insertedOf, insertTable}
-use Rattle.machine.specs.Tag.{tagOf}
+use Rattle.machine.specs.Tag.{tagOf, entryAt, isEntry}
+use Rattle.machine.proofs.Tags.{Sized, written-reads}
 use Rattle.machine.specs.declared.entry.Entry.{Entry}
 use Rattle.machine.specs.declared.table.Inserted.{Inserted}
 use Rattle.machine.specs.declared.table.Inserted.the-variants.{At, BadShape, Illegal, Full}
@@ -127,3 +129,33 @@ others-read e out l k h p j d =
     let (shape, ok, room, at) = insert-done e l k h in
     let new : insertTable e out l ≡ put k (e .base) (tagOf e) out l = insert-0 e out l k shape ok (sym at) (omega arith) .1 in
     ap (λ (m : List ℕ). holdsAt p m j) new ∙ put-keeps p k (e .base) (tagOf e) out l j d
+
+-- the slot that was taken reads as the entry: "a slot that insert wrote reads back as every field and the output word it was given"
+pub taken-reads : (e : Entry) (out : ℕ) (l : List ℕ) (k : ℕ) → Sized e → insertedOf e l ≡ At k →
+    (isEntry (getD (insertTable e out l) (3 * k) 0) (getD (insertTable e out l) (3 * k + 1) 0) ≡ true)
+    × (entryAt (getD (insertTable e out l) (3 * k) 0) (getD (insertTable e out l) (3 * k + 1) 0) ≡ e)
+    × (getD (insertTable e out l) (3 * k + 2) 0 ≡ out)
+taken-reads e out l k z h =
+    let it = taken e out l k h in
+    let (reads, back) = written-reads e z (insert-done e l k h .1) in
+    (ap₂ isEntry (it .base) (it .tag) ∙ reads, ap₂ entryAt (it .base) (it .tag) ∙ back, it .output)
+
+-- a slot that reads as empty, all zeros or senseless, is taken where no lower one does
+pub insert-takes : (e : Entry) (l : List ℕ) (k : ℕ) → isTable l ≡ true → isLegal e ≡ true → k < slots l → holdsAt isEmpty l k ≡ true →
+    ((j : ℕ) → j < k → holdsAt isEmpty l j ≡ false) → insertedOf e l ≡ At k
+insert-takes e l k shape ok low here lower = insert-0 e 0 l k shape ok (sym (first-is isEmpty l k low lower here)) low .0
+
+-- "9: no slot reads as empty", and exactly then
+pub insert-full : (e : Entry) (l : List ℕ) → isTable l ≡ true → isLegal e ≡ true →
+    (insertedOf e l ≡ Full) ↔ ((k : ℕ) → k < slots l → holdsAt isEmpty l k ≡ false)
+unfolding insertedOf
+insert-full e l shape ok = (there, λ (none : (k : ℕ) → k < slots l → holdsAt isEmpty l k ≡ false). simp (shape, ok, none-some isEmpty l none))
+  where
+    there : insertedOf e l ≡ Full → (k : ℕ) → k < slots l → holdsAt isEmpty l k ≡ false
+    there h = go (some isEmpty l) refl
+      where
+        go : (b : Bool) → some isEmpty l ≡ b → (k : ℕ) → k < slots l → holdsAt isEmpty l k ≡ false
+        go true s =
+            let at : insertedOf e l ≡ At (first isEmpty l) = simp (shape, ok, s) in
+            absurd (let z : _≡_ {A = ℕ} 9 0 = ap insertedNumber (sym h ∙ at) in omega arith)
+        go false s = some-none isEmpty l s

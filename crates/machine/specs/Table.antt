@@ -18,12 +18,12 @@ use Rattle.machine.specs.Span.{inSpan}
 use Rattle.machine.specs.Entry.{hasAsids, spanOf, isLegal}
 use Rattle.machine.specs.Tag.{flag, regimeNumber, securityNumber, tagOf, entryAt, isEntry}
 
--- "Shape is bad if the words aren't a multiple of three or are over 6,144 or 48."
-abbrev pub hasShape : ℕ → List ℕ → Bool
-hasShape most l = eqb (length l % 3) 0 && leb (length l) most
+-- "Shape is bad if the words aren't a multiple of three or are over 6,144 or 48.": of so many words, over the most
+abbrev pub hasShape : ℕ → ℕ → Bool
+hasShape most words = eqb (words % 3) 0 && leb words most
 
 abbrev pub isTable : List ℕ → Bool
-isTable l = hasShape 6144 l
+isTable l = hasShape 6144 (length l)
 
 -- "reads as empty"; the output word has no say
 abbrev pub isEmpty : ℕ → ℕ → ℕ → Bool
@@ -57,14 +57,17 @@ sameCompany c d =
 unfoldable pub stage1Of : State → Regime → Company
 stage1Of st r = record { regime = r; security = securityIn st r; vmid = vmidIn st r; stage2 = false; ns = false }
 
--- "a stage 1 leaf of the own processor and that regime whose span holds the address and whose ASID agrees (or it is global, or the regime has none)"
-unfoldable pub translates : Company → ℕ → ℕ → ℕ → Entry → Bool
-translates c own asid address e =
-    sameCompany (e .company) c
-    && e .leaf
+-- "a ... leaf of the own processor ... whose span holds the address and whose ASID agrees (or it is global, or the regime has none)"
+unfoldable pub holdsAddress : ℕ → ℕ → ℕ → Entry → Bool
+holdsAddress own asid address e =
+    e .leaf
     && eqb (e .processor) own
     && inSpan (e .base) (spanOf e) address
-    && (eqb (e .asid) asid || e .global || not (hasAsids c))
+    && (eqb (e .asid) asid || e .global || not (hasAsids (e .company)))
+
+-- of the company sought
+unfoldable pub translates : Company → ℕ → ℕ → ℕ → Entry → Bool
+translates c own asid address e = sameCompany (e .company) c && holdsAddress own asid address e
 
 unfoldable pub matches : Company → ℕ → ℕ → ℕ → ℕ → ℕ → ℕ → Bool
 matches c own asid address base tag out = isEntry base tag && translates c own asid address (entryAt base tag)

@@ -1,13 +1,11 @@
 // Look up: the lowest slot that translates an address.
 ghost use Prim.Native.Nat.{_%_, _^_, _<_};
-ghost use mathlib.Core.Bool.{true, not, _&&_, _||_};
+ghost use mathlib.Core.Bool.{true};
 ghost use mathlib.Core.Path.{_≡_};
-ghost use lib.Dec.{eqb};
 ghost use lib.ListN.{length};
 ghost use Rattle.laws.specs.Slots.{first};
-ghost use Rattle.machine.specs.Entry.{hasAsids, spanOf, isLegal};
-ghost use Rattle.machine.specs.Span.{inSpan};
-ghost use Rattle.machine.specs.Table.{stage1Of, matches, lookedUpOf};
+ghost use Rattle.machine.specs.Entry.{isLegal};
+ghost use Rattle.machine.specs.Table.{stage1Of, holdsAddress, matches, lookedUpOf};
 ghost use Rattle.machine.specs.Tag.{layout, companyAt};
 use crate::shape::is_table;
 use entries::company_tag;
@@ -28,6 +26,7 @@ use spans::in_span;
 
 pub fn look_up(table: &[u64], state: State, regime: Regime, asid: u16, address: u64) -> LookedUp
     ensures { λ r. ⌜ r ≡ lookedUpOf state regime asid address (now (table .entry)) ⌝ }
+    ensures { λ r. ⌜ now (table .exit) ≡ now (table .entry) ⌝ }
 {
     if !is_table(table.len()) {
         return LookedUp::BadShape;
@@ -93,13 +92,13 @@ fn is_match(key: u64, own: u8, asid: u16, address: u64, base: u64, tag: u64) -> 
         return false;
     }
     let entry = entry_at(base, tag);
-    holds(entry, own, asid, address)
+    holds_address(entry, own, asid, address)
 }
 
 // An entry of the company translates the address.
-fn holds(entry: Entry, own: u8, asid: u16, address: u64) -> bool
+fn holds_address(entry: Entry, own: u8, asid: u16, address: u64) -> bool
     requires { ⌜ isLegal entry ≡ true ⌝ }
-    ensures { λ r. ⌜ r ≡ (entry .leaf && eqb (entry .processor) own && inSpan (entry .base) (spanOf entry) address && (eqb (entry .asid) asid || entry .global || not (hasAsids (entry .company)))) ⌝ }
+    ensures { λ r. ⌜ r ≡ holdsAddress own asid address entry ⌝ }
 {
     let company = entry.company;
     let asids = has_asids(company);

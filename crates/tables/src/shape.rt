@@ -1,12 +1,10 @@
 // The shape of a table.
-ghost use Prim.Native.Nat.{_%_};
-ghost use mathlib.Core.Bool.{_&&_};
 ghost use mathlib.Core.Path.{_≡_};
-ghost use lib.Dec.{eqb, leb};
+ghost use Rattle.machine.specs.Table.{hasShape};
 
 // A multiple of three words, and at most 2,048 slots.
 pub fn is_table(words: usize) -> bool
-    ensures { λ r. ⌜ r ≡ (eqb (words % 3) 0 && leb words 6144) ⌝ }
+    ensures { λ r. ⌜ r ≡ hasShape 6144 words ⌝ }
 {
     (words % 3 == 0) & (words <= 6144)
 }

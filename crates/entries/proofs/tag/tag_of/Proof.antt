@@ -31,17 +31,17 @@ flag-requires-3 c κs = search needs
 flag-requires-4 : tie.Need-flag-requires-4
 flag-requires-4 c κs = search needs
 
-cast-placed : tie.Need-cast-placed
-cast-placed c = search needs
+cast-in-places : tie.Need-cast-in-places
+cast-in-places c = search needs
 
-cast-placed-2 : tie.Need-cast-placed-2
-cast-placed-2 c = search needs
+cast-in-places-2 : tie.Need-cast-in-places-2
+cast-in-places-2 c = search needs
 
-cast-placed-3 : tie.Need-cast-placed-3
-cast-placed-3 c = search needs
+cast-in-places-3 : tie.Need-cast-in-places-3
+cast-in-places-3 c = search needs
 
-placed-requires : tie.Need-placed-requires
-placed-requires c κs =
+in-places-requires : tie.Need-in-places-requires
+in-places-requires c κs =
     let e = c .before .before .before .before .before .before .before .before .before .before .args .entry in
     let k = legal e (c .before .before .before .before .before .before .before .before .before .before .pre) in
     (c .before .before .before .before .before .before .before .before .before .company-tag .ensures .1, span-tg-most (e .wide) (e .granule) (e .level) (k .span), omega arith, c .before .before .before .before .before .before .before .before .flag .ensures .1, c .before .before .before .before .before .before .before .flag2 .ensures .1, c .before .before .before .before .before .height-of .ensures .1, c .before .before .before .before .flag3 .ensures .1, c .before .before .before .flag4 .ensures .1, k .processor)
@@ -51,7 +51,7 @@ unfolding tagOf
 returns c =
     let e = c .before .before .before .before .before .before .before .before .before .before .before .args .entry in
     let z = toZ-ofZ w8 (e .level) (sfits-of (c .before .before .before .before .before .before .before .struct-told .given .1 .1 .1 .1 .1 .1 .0 .1)) in
-    simp (c .placed .ensures, c .before .before .before .before .before .before .before .before .before .before .company-tag .ensures .0, c .before .before .before .before .before .before .before .before .before .flag .ensures .0, c .before .before .before .before .before .before .before .before .flag2 .ensures .0, c .before .before .before .before .before .before .height-of .ensures .0 ∙ ap heightOf z, c .before .before .before .before .before .flag3 .ensures .0, c .before .before .before .before .flag4 .ensures .0)
+    simp (c .in-places .ensures, c .before .before .before .before .before .before .before .before .before .before .company-tag .ensures .0, c .before .before .before .before .before .before .before .before .before .flag .ensures .0, c .before .before .before .before .before .before .before .before .flag2 .ensures .0, c .before .before .before .before .before .before .height-of .ensures .0 ∙ ap heightOf z, c .before .before .before .before .before .flag3 .ensures .0, c .before .before .before .before .flag4 .ensures .0)
 
 pub tag-of-spec : {M : Type 1} → statement M
 tag-of-spec =
@@ -63,8 +63,8 @@ tag-of-spec =
     height-of-requires
     flag-requires-3
     flag-requires-4
-    cast-placed
-    cast-placed-2
-    cast-placed-3
-    placed-requires
+    cast-in-places
+    cast-in-places-2
+    cast-in-places-3
+    in-places-requires
     returns)

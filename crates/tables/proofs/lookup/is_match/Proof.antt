@@ -2,7 +2,8 @@
 use mathlib.Core.Path.{sym, ap, _∙_}
 use borrow.Author.Needs.{needs}
 use borrow.Author.Tests.{not-true, not-false}
-use Rattle.machine.proofs.Found.{match-empty, match-other, match-own, translatesRest}
+use Rattle.machine.proofs.Found.{match-empty, match-other, match-own}
+use Rattle.machine.specs.Table.{holdsAddress}
 use Rattle.machine.proofs.Tags.{reads-written}
 use Rattle.machine.specs.Entry.{isLegal}
 use Rattle.tables.proofs.lookup.is_match.Statement.{statement}
@@ -24,8 +25,8 @@ returns-2 c =
 entry-at-requires : tie.Need-entry-at-requires
 entry-at-requires c κs = search needs
 
-holds-requires : tie.Need-holds-requires
-holds-requires c κs =
+holds-address-requires : tie.Need-holds-address-requires
+holds-address-requires c κs =
     let a = c .before .before .before .before .args in
     let h = sym (c .before .before .is-entry .ensures) ∙ not-false _ (c .before .if2 .left) in
     ap isLegal (c .entry-at .ensures) ∙ reads-written (a .base) (a .tag) h .1
@@ -34,9 +35,9 @@ returns-3 : tie.Need-returns-3
 returns-3 c =
     let a = c .before .before .before .before .before .args in
     let h = sym (c .before .before .before .is-entry .ensures) ∙ not-false _ (c .before .before .if2 .left) in
-    c .holds .ensures ∙ ap (translatesRest (a .own) (a .asid) (a .address)) (c .before .entry-at .ensures) ∙ sym (match-own (a .key) (a .own) (a .asid) (a .address) (a .base) (a .tag) 0 (c .before .before .before .before .before .pre .0) (c .before .before .before .before .before .pre .1) (c .before .before .before .before .if1 .left) h)
+    c .holds-address .ensures ∙ ap (holdsAddress (a .own) (a .asid) (a .address)) (c .before .entry-at .ensures) ∙ sym (match-own (a .key) (a .own) (a .asid) (a .address) (a .base) (a .tag) 0 (c .before .before .before .before .before .pre .0) (c .before .before .before .before .before .pre .1) (c .before .before .before .before .if1 .left) h)
 
 pub is-match-spec : {M : Type 1} → statement M
 is-match-spec =
     tie.close
-    (tie.spec returns is-entry-requires returns-2 entry-at-requires holds-requires returns-3)
+    (tie.spec returns is-entry-requires returns-2 entry-at-requires holds-address-requires returns-3)

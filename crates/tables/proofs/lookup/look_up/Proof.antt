@@ -1,6 +1,6 @@
 -- `tables::lookup::look_up` meets its contract.
 use Prim.Native.Nat.{ℕ, _%_, _^_}
-use mathlib.Core.Path.{sym, ap, _∙_}
+use mathlib.Core.Path.{refl, sym, ap, _∙_}
 use native.Mathlib.Omega.{arith}
 use borrow.Author.Needs.{needs}
 use borrow.Author.Tests.{not-true, not-false}
@@ -20,7 +20,7 @@ is-table-requires c κs = search needs
 returns : tie.Need-returns
 returns c =
     let a = c .before .before .before .args in
-    sym (lookup-13 (a .state) (a .regime) (a .asid) (a .address) (a .table .now) (sym (c .before .is-table .ensures) ∙ not-true _ (c .if1 .taken)))
+    (sym (lookup-13 (a .state) (a .regime) (a .asid) (a .address) (a .table .now) (sym (c .before .is-table .ensures) ∙ not-true _ (c .if1 .taken))), refl)
 
 is-bad-requires : tie.Need-is-bad-requires
 is-bad-requires c κs = search needs
@@ -29,7 +29,7 @@ returns-2 : tie.Need-returns-2
 returns-2 c =
     let a = c .before .before .before .before .before .args in
     let t = sym (c .before .before .before .is-table .ensures) ∙ not-false _ (c .before .before .if1 .left) in
-    sym (lookup-2 (a .state) (a .regime) (a .asid) (a .address) (a .table .now) t (sym (c .before .is-bad .ensures) ∙ c .if2 .taken))
+    (sym (lookup-2 (a .state) (a .regime) (a .asid) (a .address) (a .table .now) t (sym (c .before .is-bad .ensures) ∙ c .if2 .taken)), refl)
 
 stage1-of-requires : tie.Need-stage1-of-requires
 stage1-of-requires c κs = search needs
@@ -66,7 +66,7 @@ returns-3 c =
     let s = c .before .before .before .before .stage1-of in
     let key = ap companyAt (c .before .before .before .company-tag .ensures .0) ∙ key-company (s .result) (s .ensures .1) ∙ s .ensures .0 in
     let f = c .before .before .first-match .ensures ∙ ap (λ (d : Company). first (matches d (a .state .board .own) (a .asid) (a .address)) (a .table .now)) key in
-    sym (lookup-0 (a .state) (a .regime) (a .asid) (a .address) (a .table .now) (c .before .before .first-match .result) t b f (c .before .if3 .taken))
+    (sym (lookup-0 (a .state) (a .regime) (a .asid) (a .address) (a .table .now) (c .before .before .first-match .result) t b f (c .before .if3 .taken)), refl)
 
 returns-4 : tie.Need-returns-4
 returns-4 c =
@@ -76,7 +76,7 @@ returns-4 c =
     let s = c .before .before .before .stage1-of in
     let key = ap companyAt (c .before .before .company-tag .ensures .0) ∙ key-company (s .result) (s .ensures .1) ∙ s .ensures .0 in
     let f = c .before .first-match .ensures ∙ ap (λ (d : Company). first (matches d (a .state .board .own) (a .asid) (a .address)) (a .table .now)) key in
-    sym (lookup-14 (a .state) (a .regime) (a .asid) (a .address) (a .table .now) t b (omega (arith, f, c .if3 .left)))
+    (sym (lookup-14 (a .state) (a .regime) (a .asid) (a .address) (a .table .now) t b (omega (arith, f, c .if3 .left))), refl)
 
 pub look-up-spec : {M : Type 1} → statement M
 look-up-spec =

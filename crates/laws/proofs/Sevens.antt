@@ -1,0 +1,39 @@
+-- The definitions of slots by computation, with the test that the second number is 7.
+use Prim.Native.Nat.{ℕ}
+use mathlib.Core.Bool.{Bool, true, false}
+use mathlib.Core.List.{List, [], _∷_}
+use mathlib.Core.Path.{_≡_, refl}
+use lib.Dec.{eqb}
+use Rattle.laws.specs.Slots.{slots, holdsAt, count, first, some, cleared, put}
+
+abbrev seven : ℕ → ℕ → ℕ → Bool
+seven a b c = eqb b 7
+
+abbrev list : List ℕ
+list = 1 ∷ 2 ∷ 3 ∷ 4 ∷ 7 ∷ 5 ∷ 7 ∷ 6 ∷ 7 ∷ 8 ∷ 7 ∷ 9 ∷ []
+
+pub sevens :
+    (slots list ≡ 4)
+    × (first seven list ≡ 1)
+    × (count seven list ≡ 2)
+    × (some seven list ≡ true)
+    × (cleared seven list ≡ 1 ∷ 2 ∷ 3 ∷ 0 ∷ 0 ∷ 0 ∷ 7 ∷ 6 ∷ 7 ∷ 0 ∷ 0 ∷ 0 ∷ [])
+    × (put 2 7 7 8 list ≡ 1 ∷ 2 ∷ 3 ∷ 4 ∷ 7 ∷ 5 ∷ 7 ∷ 7 ∷ 8 ∷ 8 ∷ 7 ∷ 9 ∷ [])
+    × (holdsAt seven list 0 ∷ holdsAt seven list 1 ∷ holdsAt seven list 2 ∷ holdsAt seven list 3 ∷ [] ≡ false ∷ true ∷ false ∷ true ∷ [])
+unfolding count first cleared
+sevens = (refl, refl, refl, refl, refl, refl, refl)
+
+-- where there is none, and where words are left over
+pub none :
+    (first seven [] ≡ 0)
+    × (some seven [] ≡ false)
+    × (first seven (7 ∷ 7 ∷ []) ≡ 0)
+    × (some seven (7 ∷ 7 ∷ []) ≡ false)
+    × (count seven (7 ∷ 7 ∷ []) ≡ 0)
+    × (cleared seven (7 ∷ 7 ∷ []) ≡ 7 ∷ 7 ∷ [])
+    × (first seven (1 ∷ 2 ∷ 3 ∷ 7 ∷ []) ≡ 1)
+    × (some seven (1 ∷ 2 ∷ 3 ∷ 7 ∷ []) ≡ false)
+    × (count seven (7 ∷ []) ≡ 0)
+    × (cleared seven (1 ∷ 7 ∷ 3 ∷ 7 ∷ []) ≡ 0 ∷ 0 ∷ 0 ∷ 7 ∷ [])
+unfolding count first cleared
+none = (refl, refl, refl, refl, refl, refl, refl, refl, refl, refl)
