@@ -1,7 +1,8 @@
 // Regimes, security states, levels and flags as the numbers that a tag holds.
-ghost use Prim.Native.Nat.{_<_, _≤_};
+ghost use Prim.Native.Nat.{_<_};
 ghost use mathlib.Core.Path.{_≡_};
 ghost use lib.IntN.{pos, _-ℤ_};
+ghost use Rattle.laws.specs.Bits.{bits};
 ghost use Rattle.machine.specs.Tag.{regimeNumber, securityNumber, flag, regimeAt, securityAt};
 use machine::Regime;
 use machine::Security;
@@ -56,10 +57,9 @@ pub fn security_at(number: u64) -> Security
     }
 }
 
-// 3 minus a height of three bits.
-pub fn level_at(height: u64) -> i8
-    requires { ⌜ height < 8 ⌝ }
-    ensures { λ r. ⌜ r ≡ pos 3 -ℤ pos height ⌝ }
+// 3 minus the height, which stands in three bits of a tag.
+pub fn level_at(tag: u64) -> i8
+    ensures { λ r. ⌜ r ≡ pos 3 -ℤ pos (bits 48 46 tag) ⌝ }
 {
-    3 - (height as i8)
+    3 - ((tag / 0x400000000000 % 8) as i8)
 }

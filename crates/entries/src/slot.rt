@@ -26,7 +26,7 @@ pub fn entry_at(base: u64, tag: u64) -> Entry
     ensures { λ r. ⌜ r ≡ entryAt base tag ⌝ }
 {
     let company = company_at(tag);
-    let level = level_at(tag / 0x400000000000 % 8);
+    let level = level_at(tag);
     Entry {
         processor: (tag / 0x8000000000000 % 8) as u8,
         company,

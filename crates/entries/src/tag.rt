@@ -1,9 +1,9 @@
 // The tag of an entry.
-ghost use Prim.Native.Nat.{_+_, _*_, _^_, _<_, _≤_};
+ghost use Prim.Native.Nat.{_^_, _<_, _≤_};
 ghost use mathlib.Core.Bool.{true};
 ghost use mathlib.Core.Path.{_≡_};
 ghost use Rattle.machine.specs.Entry.{isLegal};
-ghost use Rattle.machine.specs.Tag.{companyTag, tagOf};
+ghost use Rattle.machine.specs.Tag.{entryPlaces, companyTag, tagOf};
 use crate::number::flag;
 use crate::number::regime_number;
 use crate::number::security_number;
@@ -64,7 +64,7 @@ fn in_places(
     processor: u64,
 ) -> u64
     requires { ⌜ (company < 2 ^ 26) × (granule ≤ 3) × (asid < 2 ^ 16) × (global < 2) × (wide < 2) × (height ≤ 4) × (leaf < 2) × (xs < 2) × (processor ≤ 7) ⌝ }
-    ensures { λ r. ⌜ r ≡ company + granule * 2 ^ 26 + asid * 2 ^ 28 + global * 2 ^ 44 + wide * 2 ^ 45 + height * 2 ^ 46 + leaf * 2 ^ 49 + xs * 2 ^ 50 + processor * 2 ^ 51 ⌝ }
+    ensures { λ r. ⌜ r ≡ entryPlaces company granule asid global wide height leaf xs processor ⌝ }
 {
     company
         + granule * 0x4000000

@@ -27,18 +27,6 @@ next-slot l i h =
     ∙ ap (λ (r : List ℕ). getD l (i + 1) 0 ∷ r)
     (ap (λ (j : ℕ). drop j l) e2 ∙ drop-cons l (i + 2) 0 h ∙ ap (λ (r : List ℕ). getD l (i + 2) 0 ∷ r) (ap (λ (j : ℕ). drop j l) e3)))
 
--- the first is at most the number of slots
-pub first-most : (p : ℕ → ℕ → ℕ → Bool) (l : List ℕ) → 3 * first p l ≤ length l
-unfolding first
-first-most p [] = omega arith
-first-most p (a ∷ []) = omega arith
-first-most p (a ∷ b ∷ []) = omega arith
-first-most p (a ∷ b ∷ c ∷ l) = go (p a b c) (first-most p l)
-  where
-    go : (t : Bool) → 3 * first p l ≤ length l → 3 * cond t 0 (suc (first p l)) ≤ suc (suc (suc (length l)))
-    go true h = omega arith
-    go false h = omega arith
-
 -- A loop that looks for it has come to word i, which is slot k, and has not met it.
 abbrev pub Seeking : (ℕ → ℕ → ℕ → Bool) → List ℕ → ℕ → ℕ → Type 0
 Seeking p l i k = (length l % 3 ≡ 0) × (i ≤ length l) × (i ≡ 3 * k) × (k + first p (drop i l) ≡ first p l)

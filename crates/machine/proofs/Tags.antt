@@ -16,7 +16,7 @@ use Rattle.machine.proofs.Spans.{by-level, span-tg-most, span-level}
 use Rattle.machine.specs.Entry.{isCompany, hasAsids, isPlaced, inReach, spanOf, isLegal}
 use Rattle.machine.specs.Span.{isLevel, heightOf, hasSpan}
 use Rattle.machine.specs.Table.{isEmpty, sameCompany}
-use Rattle.machine.specs.Tag.{layout, regimeNumber, securityNumber, flag, companyTag, tagOf, regimeAt, securityAt, companyAt, entryAt, isEntry}
+use Rattle.machine.specs.Tag.{layout, regimeNumber, securityNumber, flag, companyPlaces, entryPlaces, companyTag, tagOf, regimeAt, securityAt, companyAt, entryAt, isEntry}
 use Rattle.machine.specs.declared.entry.Company.{Company}
 use Rattle.machine.specs.declared.entry.Entry.{Entry}
 use Rattle.machine.specs.declared.scope.Regime.{Regime}
@@ -116,10 +116,7 @@ height-there n h = by-height (λ (m : ℕ). heightOf (pos 3 -ℤ pos m) ≡ m) (
 abbrev pub Sized : Entry → Type 0
 Sized e = (e .company .vmid < 2 ^ 16) × (e .asid < 2 ^ 16)
 
--- the lower part of a tag by its numbers, with more above it: each number stands in its place
-abbrev low : ℕ → ℕ → ℕ → ℕ → ℕ → ℕ
-low r s v g n = layout + r * 2 ^ 4 + s * 2 ^ 6 + v * 2 ^ 8 + g * 2 ^ 24 + n * 2 ^ 25
-
+-- each number of the lower part stands in its place, with more above it
 record Low (t r s v g n : ℕ) : Type 0 where
   regime : bits 5 4 t ≡ r
   security : bits 7 6 t ≡ s
@@ -127,23 +124,20 @@ record Low (t r s v g n : ℕ) : Type 0 where
   stage : bits 24 24 t ≡ g
   space : bits 25 25 t ≡ n
 
-low-places : (r s v g n x : ℕ) → r < 4 → s < 4 → v < 2 ^ 16 → g < 2 → n < 2 → Low (low r s v g n + x * 2 ^ 26) r s v g n
+low-places : (r s v g n x : ℕ) → r < 4 → s < 4 → v < 2 ^ 16 → g < 2 → n < 2 → Low (companyPlaces r s v g n + x * 2 ^ 26) r s v g n
 low-places r s v g n x hr hs hv hg hn = record { regime = omega arith; security = omega arith; vmid = omega arith; stage = omega arith; space = omega arith }
 
 -- and what stands in the places of a number is that number
-low-whole : (t : ℕ) → low (bits 5 4 t) (bits 7 6 t) (bits 23 8 t) (bits 24 24 t) (bits 25 25 t) ≡ layout + bits 25 4 t * 2 ^ 4
+low-whole : (t : ℕ) → companyPlaces (bits 5 4 t) (bits 7 6 t) (bits 23 8 t) (bits 24 24 t) (bits 25 25 t) ≡ layout + bits 25 4 t * 2 ^ 4
 low-whole t =
     sum (t / 2 ^ 4) (t / 2 ^ 6) (t / 2 ^ 8) (t / 2 ^ 24) (t / 2 ^ 25) (t / 2 ^ 26) (bits 5 4 t) (bits 7 6 t) (bits 23 8 t) (bits 24 24 t) (bits 25 25 t)
     (bits 25 4 t) (digit t 4 2) (digit t 6 2) (digit t 8 16) (digit t 24 1) (digit t 25 1) (digit t 4 22)
   where
     sum : (a b c d e f r s v g n w : ℕ) → a ≡ b * 4 + r → b ≡ c * 4 + s → c ≡ d * 65536 + v → d ≡ e * 2 + g → e ≡ f * 2 + n → a ≡ f * 4194304 + w →
-        low r s v g n ≡ layout + w * 2 ^ 4
+        companyPlaces r s v g n ≡ layout + w * 2 ^ 4
     sum a b c d e f r s v g n w h1 h2 h3 h4 h5 h6 = omega arith
 
 -- the upper part likewise
-abbrev high : ℕ → ℕ → ℕ → ℕ → ℕ → ℕ → ℕ → ℕ → ℕ → ℕ
-high c g a b w h l x p = c + g * 2 ^ 26 + a * 2 ^ 28 + b * 2 ^ 44 + w * 2 ^ 45 + h * 2 ^ 46 + l * 2 ^ 49 + x * 2 ^ 50 + p * 2 ^ 51
-
 record High (t g a b w h l x p : ℕ) : Type 0 where
   granule : bits 27 26 t ≡ g
   asid : bits 43 28 t ≡ a
@@ -155,7 +149,7 @@ record High (t g a b w h l x p : ℕ) : Type 0 where
   processor : bits 53 51 t ≡ p
 
 high-places : (c g a b w h l x p : ℕ) → c < 2 ^ 26 → g < 4 → a < 2 ^ 16 → b < 2 → w < 2 → h < 8 → l < 2 → x < 2 → p < 8 →
-    High (high c g a b w h l x p) g a b w h l x p
+    High (entryPlaces c g a b w h l x p) g a b w h l x p
 high-places c g a b w h l x p hc hg ha hb hw hh hl hx hp =
     record {
       granule = omega arith;
@@ -169,14 +163,14 @@ high-places c g a b w h l x p hc hg ha hb hw hh hl hx hp =
     }
 
 high-whole : (c t : ℕ) →
-    high c (bits 27 26 t) (bits 43 28 t) (bits 44 44 t) (bits 45 45 t) (bits 48 46 t) (bits 49 49 t) (bits 50 50 t) (bits 53 51 t)
+    entryPlaces c (bits 27 26 t) (bits 43 28 t) (bits 44 44 t) (bits 45 45 t) (bits 48 46 t) (bits 49 49 t) (bits 50 50 t) (bits 53 51 t)
     ≡ c + bits 53 26 t * 2 ^ 26
 high-whole c t =
     sum (t / 2 ^ 26) (t / 2 ^ 28) (t / 2 ^ 44) (t / 2 ^ 45) (t / 2 ^ 46) (t / 2 ^ 49) (t / 2 ^ 50) (t / 2 ^ 51) (t / 2 ^ 54) (bits 27 26 t)
     (bits 43 28 t) (bits 44 44 t) (bits 45 45 t) (bits 48 46 t) (bits 49 49 t) (bits 50 50 t) (bits 53 51 t) (bits 53 26 t) (digit t 26 2) (digit t 28 16) (digit t 44 1) (digit t 45 1) (digit t 46 3) (digit t 49 1) (digit t 50 1) (digit t 51 3) (digit t 26 28)
   where
     sum : (a₀ a₁ a₂ a₃ a₄ a₅ a₆ a₇ a₈ g a b w h l x p r : ℕ) → a₀ ≡ a₁ * 4 + g → a₁ ≡ a₂ * 65536 + a → a₂ ≡ a₃ * 2 + b → a₃ ≡ a₄ * 2 + w → a₄ ≡ a₅ * 8 + h →
-        a₅ ≡ a₆ * 2 + l → a₆ ≡ a₇ * 2 + x → a₇ ≡ a₈ * 8 + p → a₀ ≡ a₈ * 268435456 + r → high c g a b w h l x p ≡ c + r * 2 ^ 26
+        a₅ ≡ a₆ * 2 + l → a₆ ≡ a₇ * 2 + x → a₇ ≡ a₈ * 8 + p → a₀ ≡ a₈ * 268435456 + r → entryPlaces c g a b w h l x p ≡ c + r * 2 ^ 26
     sum a₀ a₁ a₂ a₃ a₄ a₅ a₆ a₇ a₈ g a b w h l x p r h1 h2 h3 h4 h5 h6 h7 h8 h9 = omega arith
 
 -- the lower part of a tag is below 2^26
@@ -209,7 +203,7 @@ company-there t =
     let n : flag (bitOf t 25) ≡ bits 25 25 t = flag-there (bits 25 25 t) (mod-lt (t / 2 ^ 25) (omega arith)) in
     low-same (bits 23 8 t) r s g n ∙ low-whole t
   where
-    low-same : (v : ℕ) {r₀ r₁ s₀ s₁ g₀ g₁ n₀ n₁ : ℕ} → r₀ ≡ r₁ → s₀ ≡ s₁ → g₀ ≡ g₁ → n₀ ≡ n₁ → low r₀ s₀ v g₀ n₀ ≡ low r₁ s₁ v g₁ n₁
+    low-same : (v : ℕ) {r₀ r₁ s₀ s₁ g₀ g₁ n₀ n₁ : ℕ} → r₀ ≡ r₁ → s₀ ≡ s₁ → g₀ ≡ g₁ → n₀ ≡ n₁ → companyPlaces r₀ s₀ v g₀ n₀ ≡ companyPlaces r₁ s₁ v g₁ n₁
     low-same v r s g n = omega arith
 
 pub entry-same : {p₀ p₁ a₀ a₁ g₀ g₁ : ℕ} {c₀ c₁ : Company} {b₀ b₁ w₀ w₁ f₀ f₁ x₀ x₁ : Bool} {l₀ l₁ : ℤ} (base : ℕ) → p₀ ≡ p₁ → c₀ ≡ c₁ → a₀ ≡ a₁ → b₀ ≡ b₁ → w₀ ≡ w₁ →
@@ -232,10 +226,10 @@ entry-back e z hp hg hl =
     one : {n : ℕ} (b : Bool) → n ≡ flag b → eqb n 1 ≡ b
     one b h = ap (λ (m : ℕ). eqb m 1) h ∙ flag-back b
 
-    company-of : (g a b w h l x p : ℕ) → companyAt (high (companyTag (e .company)) g a b w h l x p) ≡ e .company
+    company-of : (g a b w h l x p : ℕ) → companyAt (entryPlaces (companyTag (e .company)) g a b w h l x p) ≡ e .company
     company-of g a b w h l x p =
         let more : ℕ = g + a * 2 ^ 2 + b * 2 ^ 18 + w * 2 ^ 19 + h * 2 ^ 20 + l * 2 ^ 23 + x * 2 ^ 24 + p * 2 ^ 25 in
-        let above : high (companyTag (e .company)) g a b w h l x p ≡ companyTag (e .company) + more * 2 ^ 26 = omega arith in
+        let above : entryPlaces (companyTag (e .company)) g a b w h l x p ≡ companyTag (e .company) + more * 2 ^ 26 = omega arith in
         ap companyAt above ∙ company-back (e .company) more (z .0)
 
 -- what stands in a number, and is written again, is the number if it has the layout number and nothing above its places
@@ -251,7 +245,7 @@ entry-there base t =
     ∙ sum (t / 2 ^ 4) (t / 2 ^ 26) (t / 2 ^ 54) (bits 25 4 t) (bits 53 26 t) (bits 53 4 t) (digit t 4 22) (digit t 26 28) (digit t 4 50)
   where
     high-same : (g a p : ℕ) {c₀ c₁ b₀ b₁ w₀ w₁ h₀ h₁ l₀ l₁ x₀ x₁ : ℕ} → c₀ ≡ c₁ → b₀ ≡ b₁ → w₀ ≡ w₁ → h₀ ≡ h₁ → l₀ ≡ l₁ → x₀ ≡ x₁ →
-        high c₀ g a b₀ w₀ h₀ l₀ x₀ p ≡ high c₁ g a b₁ w₁ h₁ l₁ x₁ p
+        entryPlaces c₀ g a b₀ w₀ h₀ l₀ x₀ p ≡ entryPlaces c₁ g a b₁ w₁ h₁ l₁ x₁ p
     high-same g a p c b w h l x = omega arith
 
     sum : (a b c d e f : ℕ) → a ≡ b * 4194304 + d → b ≡ c * 268435456 + e → a ≡ c * 1125899906842624 + f → layout + d * 2 ^ 4 + e * 2 ^ 26 ≡ layout + f * 2 ^ 4

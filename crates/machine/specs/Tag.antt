@@ -33,27 +33,30 @@ securityNumber Root = 3
 abbrev pub flag : Bool → ℕ
 flag b = cond b 1 0
 
--- the part that says whose an entry is
+-- the numbers that say whose an entry is, in their places
+abbrev pub companyPlaces : ℕ → ℕ → ℕ → ℕ → ℕ → ℕ
+companyPlaces regime security vmid stage space = layout + regime * 2 ^ 4 + security * 2 ^ 6 + vmid * 2 ^ 8 + stage * 2 ^ 24 + space * 2 ^ 25
+
 unfoldable pub companyTag : Company → ℕ
-companyTag c =
-    layout
-    + regimeNumber (c .regime) * 2 ^ 4
-    + securityNumber (c .security) * 2 ^ 6
-    + c .vmid * 2 ^ 8
-    + flag (c .stage2) * 2 ^ 24
-    + flag (c .ns) * 2 ^ 25
+companyTag c = companyPlaces (regimeNumber (c .regime)) (securityNumber (c .security)) (c .vmid) (flag (c .stage2)) (flag (c .ns))
+
+-- and the others above them
+abbrev pub entryPlaces : ℕ → ℕ → ℕ → ℕ → ℕ → ℕ → ℕ → ℕ → ℕ → ℕ
+entryPlaces company granule asid global wide height leaf xs processor =
+    company
+    + granule * 2 ^ 26
+    + asid * 2 ^ 28
+    + global * 2 ^ 44
+    + wide * 2 ^ 45
+    + height * 2 ^ 46
+    + leaf * 2 ^ 49
+    + xs * 2 ^ 50
+    + processor * 2 ^ 51
 
 unfoldable pub tagOf : Entry → ℕ
 tagOf e =
-    companyTag (e .company)
-    + e .granule * 2 ^ 26
-    + e .asid * 2 ^ 28
-    + flag (e .global) * 2 ^ 44
-    + flag (e .wide) * 2 ^ 45
-    + heightOf (e .level) * 2 ^ 46
-    + flag (e .leaf) * 2 ^ 49
-    + flag (e .xs) * 2 ^ 50
-    + e .processor * 2 ^ 51
+    entryPlaces (companyTag (e .company)) (e .granule) (e .asid) (flag (e .global)) (flag (e .wide)) (heightOf (e .level)) (flag (e .leaf)) (flag (e .xs))
+    (e .processor)
 
 abbrev pub regimeAt : ℕ → Regime
 regimeAt zero = EL10
