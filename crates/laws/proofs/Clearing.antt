@@ -1,15 +1,17 @@
 -- Lists as slots of three: the slots that a test holds at cleared and counted, by a loop over them and word by word.
 use Prim.Native.Nat.{ℕ, zero, suc, _+_, _*_, _/_, _%_, _<_, _≤_}
-use mathlib.Core.Bool.{Bool, true, false, cond}
+use mathlib.Core.Bool.{Bool, true, false, cond, _&&_}
 use mathlib.Core.List.{List, [], _∷_, _++_, append-nil}
 use mathlib.Core.Logic.{_↔_}
 use mathlib.Core.Path.{_≡_, refl, sym, ap, ap₂, _∙_}
 use native.Mathlib.Numerals.{add-one, add-two, add-three}
 use native.Mathlib.Omega.{arith}
+use lib.Dec.{eqb}
 use lib.ListN.{length, getD, take, drop, set, length-set, drop-of-length-le}
 use lib.Seq.{take-all}
-use Rattle.laws.proofs.Slots.{next-slot, next-holds}
-use Rattle.laws.specs.Slots.{slots, holdsAt, count, first, cleared}
+use borrow.Author.Tests.{eqb-true}
+use Rattle.laws.proofs.Slots.{slot-same, next-slot, next-holds}
+use Rattle.laws.specs.Slots.{slots, holdsAt, count, first, cleared, emptied}
 
 -- a list is as long as it was
 pub cleared-length : (p : ℕ → ℕ → ℕ → Bool) (l : List ℕ) → length (cleared p l) ≡ length l
@@ -181,3 +183,25 @@ cleared-again p (a ∷ b ∷ c ∷ l) z = go (p a b c) refl (cleared-again p l z
         × (count p (cond t (0 ∷ 0 ∷ 0 ∷ cleared p l) (a ∷ b ∷ c ∷ cleared p l)) ≡ 0)
     go true e i = (simp (z, i .0), simp (z, i .1))
     go false e i = (simp (e, i .0), simp (e, i .1))
+
+-- where the test holds only at slots of another test, which zeros do not pass, as many slots of the other are three zeros then as were cleared
+pub cleared-emptied : (p q : ℕ → ℕ → ℕ → Bool) (l : List ℕ) → ((a b c : ℕ) → p a b c ≡ true → q a b c ≡ true) → q 0 0 0 ≡ false →
+    emptied q l (cleared p l) ≡ count p l
+unfolding cleared count emptied
+cleared-emptied p q [] i z = refl
+cleared-emptied p q (a ∷ []) i z = refl
+cleared-emptied p q (a ∷ b ∷ []) i z = refl
+cleared-emptied p q (a ∷ b ∷ c ∷ l) i z = go (p a b c) refl (cleared-emptied p q l i z)
+  where
+    zeros : (u v w x : Bool) → q a b c ≡ u → eqb a 0 ≡ v → eqb b 0 ≡ w → eqb c 0 ≡ x → (u && v && w && x) ≡ false
+    zeros true true true true eu ev ew ex =
+        let e : q a b c ≡ q 0 0 0 = slot-same q (eqb-true a 0 ev) (eqb-true b 0 ew) (eqb-true c 0 ex) in sym eu ∙ e ∙ z
+    zeros true true true false eu ev ew ex = refl
+    zeros true true false x eu ev ew ex = refl
+    zeros true false w x eu ev ew ex = refl
+    zeros false v w x eu ev ew ex = refl
+
+    go : (t : Bool) → p a b c ≡ t → emptied q l (cleared p l) ≡ count p l →
+        emptied q (a ∷ b ∷ c ∷ l) (cond t (0 ∷ 0 ∷ 0 ∷ cleared p l) (a ∷ b ∷ c ∷ cleared p l)) ≡ cond t 1 0 + count p l
+    go true e h = simp (i a b c e, h)
+    go false e h = simp (zeros (q a b c) (eqb a 0) (eqb b 0) (eqb c 0) refl refl refl refl, h)

@@ -4,7 +4,7 @@ use mathlib.Core.Bool.{Bool, true, false}
 use mathlib.Core.List.{List, [], _∷_}
 use mathlib.Core.Path.{_≡_, refl}
 use lib.Dec.{eqb}
-use Rattle.laws.specs.Slots.{slots, holdsAt, count, first, some, cleared, put}
+use Rattle.laws.specs.Slots.{slots, holdsAt, count, first, some, cleared, emptied, put}
 
 abbrev seven : ℕ → ℕ → ℕ → Bool
 seven a b c = eqb b 7
@@ -37,3 +37,16 @@ pub none :
     × (cleared seven (1 ∷ 7 ∷ 3 ∷ 7 ∷ []) ≡ 0 ∷ 0 ∷ 0 ∷ 7 ∷ [])
 unfolding count first cleared
 none = (refl, refl, refl, refl, refl, refl, refl, refl, refl, refl)
+
+-- slots emptied: one that held 7 and is zeros, one that did not hold it, one that is not all zeros, and one that stays
+pub zeros :
+    (emptied seven list (0 ∷ 0 ∷ 0 ∷ 0 ∷ 0 ∷ 0 ∷ 0 ∷ 0 ∷ 0 ∷ 0 ∷ 0 ∷ 1 ∷ []) ≡ 1)
+    × (emptied seven list list ≡ 0)
+    × (emptied seven list (cleared seven list) ≡ 2)
+    × (emptied seven list (0 ∷ 0 ∷ 0 ∷ 0 ∷ 0 ∷ 0 ∷ []) ≡ 1)
+    × (emptied seven (7 ∷ 7 ∷ []) (0 ∷ 0 ∷ 0 ∷ []) ≡ 0)
+    × (emptied seven (4 ∷ 7 ∷ 5 ∷ []) (0 ∷ 0 ∷ []) ≡ 0)
+    × (emptied seven (4 ∷ 7 ∷ 5 ∷ []) (1 ∷ 0 ∷ 0 ∷ []) ≡ 0)
+    × (emptied seven (4 ∷ 7 ∷ 5 ∷ []) (0 ∷ 1 ∷ 0 ∷ []) ≡ 0)
+unfolding cleared emptied
+zeros = (refl, refl, refl, refl, refl, refl, refl, refl)

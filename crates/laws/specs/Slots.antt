@@ -1,8 +1,8 @@
 -- A list of numbers as slots of three, and a test of a slot's three numbers.
 use Prim.Native.Nat.{ℕ, zero, suc, _+_, _*_, _/_}
-use mathlib.Core.Bool.{Bool, cond}
+use mathlib.Core.Bool.{Bool, cond, _&&_}
 use mathlib.Core.List.{List, [], _∷_}
-use lib.Dec.{ltb}
+use lib.Dec.{eqb, ltb}
 use lib.ListN.{length, getD, set}
 
 abbrev pub slots : List ℕ → ℕ
@@ -36,6 +36,16 @@ cleared p [] = []
 cleared p (a ∷ []) = a ∷ []
 cleared p (a ∷ b ∷ []) = a ∷ b ∷ []
 cleared p (a ∷ b ∷ c ∷ l) = cond (p a b c) (0 ∷ 0 ∷ 0 ∷ cleared p l) (a ∷ b ∷ c ∷ cleared p l)
+
+-- how many slots that the test held at in one list are three zeros in another
+unfoldable pub emptied : (ℕ → ℕ → ℕ → Bool) → List ℕ → List ℕ → ℕ
+emptied p [] m = 0
+emptied p (a ∷ []) m = 0
+emptied p (a ∷ b ∷ []) m = 0
+emptied p (a ∷ b ∷ c ∷ l) [] = 0
+emptied p (a ∷ b ∷ c ∷ l) (x ∷ []) = 0
+emptied p (a ∷ b ∷ c ∷ l) (x ∷ y ∷ []) = 0
+emptied p (a ∷ b ∷ c ∷ l) (x ∷ y ∷ z ∷ m) = cond (p a b c && eqb x 0 && eqb y 0 && eqb z 0) 1 0 + emptied p l m
 
 -- the list with three numbers for those of slot k
 abbrev pub put : ℕ → ℕ → ℕ → ℕ → List ℕ → List ℕ

@@ -12,7 +12,7 @@ use Rattle.laws.proofs.Slots.{slot-same, first-none, first-holds, first-is, som
 use Rattle.laws.proofs.Truth.{and-0, and-1}
 use Rattle.laws.specs.Slots.{slots, holdsAt, first, some}
 use Rattle.machine.proofs.Inserting.{taken, insert-done, others-read}
-use Rattle.machine.proofs.Tags.{Sized, tag-whole, written-reads, company-one, company-self, company-key}
+use Rattle.machine.proofs.Tags.{Sized, entry-layout, written-reads, company-one, company-self, company-key}
 use Rattle.machine.specs.Answer.{lookedUpNumber}
 use Rattle.machine.specs.Entry.{hasAsids, spanOf, isLegal}
 use Rattle.machine.specs.Span.{inSpan}
@@ -32,14 +32,6 @@ use Rattle.machine.specs.declared.table.Match.{Match}
 pub match-empty : (c : Company) (own asid address base tag out : ℕ) → isEntry base tag ≡ false → matches c own asid address base tag out ≡ false
 unfolding matches
 match-empty c own asid address base tag out h = ap (λ (b : Bool). b && translates c own asid address (entryAt base tag)) h
-
--- an entry's tag has the layout number
-entry-layout : (base tag : ℕ) → isEntry base tag ≡ true → tag % 2 ^ 4 ≡ layout
-unfolding isEntry
-entry-layout base tag h =
-    let l = isLegal (entryAt base tag) in
-    let w = eqb (tagOf (entryAt base tag)) tag in
-    eqb-true (tag % 2 ^ 4) layout (and-0 (eqb (tag % 2 ^ 4) layout) (ltb tag (2 ^ 54)) (sym (tag-whole base tag) ∙ and-1 l w h))
 
 -- a slot whose lower part is not the company's matches nothing
 pub match-other : (key own asid address base tag out : ℕ) → key % 2 ^ 4 ≡ layout → key < 2 ^ 26 → (tag % 2 ^ 26 ≡ key → ⊥) →

@@ -10,6 +10,10 @@ pub mod Spans
 pub mod Tags
 pub mod Inserting
 pub mod Found
+pub mod Works
+pub mod Going
+pub mod Executing
+pub mod Running
 pub mod Corners
 pub mod Covered
 pub mod Alike

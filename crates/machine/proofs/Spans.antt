@@ -8,6 +8,8 @@ use native.Mathlib.Omega.{arith}
 use lib.Dec.{leb}
 use lib.IntN.{ℤ, pos, negsuc}
 use lib.Pow.{pow-pos, split}
+use mir.Syntax.{w8}
+use mir.Val.{toZ}
 use borrow.Author.Tests.{leb-true, le-leb, lt-leb}
 use Rattle.laws.proofs.Aligned.{ends, inside}
 use Rattle.laws.proofs.Truth.{and-0, and-1}
@@ -41,6 +43,14 @@ height-low (suc (suc (suc (suc n)))) h = absurd (omega arith)
 pub level-low : (n : ℕ) → n ≤ 3 → isLevel (pos n) ≡ true
 unfolding isLevel
 level-low n h = simp (le-leb n 3 h)
+
+-- a TTL is a level as it is
+pub ttl-level : (n : ℕ) → n < 4 → toZ w8 n ≡ pos n
+ttl-level zero h = refl
+ttl-level (suc zero) h = refl
+ttl-level (suc (suc zero)) h = refl
+ttl-level (suc (suc (suc zero))) h = refl
+ttl-level (suc (suc (suc (suc n)))) h = absurd (omega arith)
 
 pub exponent-low : (wide : Bool) (tg n : ℕ) → tg ≤ 3 → n ≤ 3 → exponentOf wide tg (pos n) ≤ 55
 unfolding exponentOf exponentAt

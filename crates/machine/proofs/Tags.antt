@@ -339,6 +339,14 @@ reads-exactly a b c = (there, back)
     back : Written a b c → isEmpty a b c ≡ false
     back w = ap₂ (λ (x y : ℕ). isEmpty x y c) (sym (w .base)) (sym (w .tag)) ∙ ap not (written-reads (w .entry) (w .sized) (w .ok) .0)
 
+-- an entry's tag has the layout number
+pub entry-layout : (base tag : ℕ) → isEntry base tag ≡ true → tag % 2 ^ 4 ≡ layout
+unfolding isEntry
+entry-layout base tag h =
+    let l = isLegal (entryAt base tag) in
+    let w = eqb (tagOf (entryAt base tag)) tag in
+    eqb-true (tag % 2 ^ 4) layout (and-0 (eqb (tag % 2 ^ 4) layout) (ltb tag (2 ^ 54)) (sym (tag-whole base tag) ∙ and-1 l w h))
+
 -- "as all zeros does": a tag of zero is nobody's
 pub zero-empty : (base : ℕ) → isEntry base 0 ≡ false
 unfolding isEntry

@@ -13,6 +13,10 @@ use Rattle.machine.specs.declared.table.Inserted.{Inserted}
 use Rattle.machine.specs.declared.table.Inserted.the-variants as inserted
 use Rattle.machine.specs.declared.table.LookedUp.{LookedUp}
 use Rattle.machine.specs.declared.table.LookedUp.the-variants as looked
+use Rattle.machine.specs.declared.work.Executed.{Executed}
+use Rattle.machine.specs.declared.work.Executed.the-variants as executed
+use Rattle.machine.specs.declared.work.Ran.{Ran}
+use Rattle.machine.specs.declared.work.Ran.the-variants as ran
 
 -- "3 UNDEFINED", "4 trapped to EL2", "5 ends without effect"; 0 says only that no access rule refuses
 abbrev pub accessNumber : Access → ℕ
@@ -96,3 +100,56 @@ lookedUpExamined (looked.Found m) = m .examined
 lookedUpExamined looked.BadShape = 0
 lookedUpExamined looked.BadState = 0
 lookedUpExamined (looked.NotFound n) = n
+
+-- "Execute: 13, 2, 1, 3 to 5 by the access rules ..., 6, 7.", the number of a trap, and how many slots were dropped
+abbrev pub executedNumber : Executed → ℕ
+executedNumber (executed.Dropped n) = 0
+executedNumber executed.BadShape = 13
+executedNumber executed.BadState = 2
+executedNumber executed.Unknown = 1
+executedNumber executed.Undefined = 3
+executedNumber (executed.Trapped v) = 4
+executedNumber executed.NoEffect = 5
+executedNumber executed.NoGranule = 6
+executedNumber executed.Unpredictable = 7
+
+abbrev pub executedTrap : Executed → ℕ
+executedTrap (executed.Dropped n) = 0
+executedTrap executed.BadShape = 0
+executedTrap executed.BadState = 0
+executedTrap executed.Unknown = 0
+executedTrap executed.Undefined = 0
+executedTrap (executed.Trapped v) = v
+executedTrap executed.NoEffect = 0
+executedTrap executed.NoGranule = 0
+executedTrap executed.Unpredictable = 0
+
+abbrev pub executedDropped : Executed → ℕ
+executedDropped (executed.Dropped n) = n
+executedDropped executed.BadShape = 0
+executedDropped executed.BadState = 0
+executedDropped executed.Unknown = 0
+executedDropped executed.Undefined = 0
+executedDropped (executed.Trapped v) = 0
+executedDropped executed.NoEffect = 0
+executedDropped executed.NoGranule = 0
+executedDropped executed.Unpredictable = 0
+
+-- "Run: 13, 2, 10", the first step that does not answer 0, and "the sum of dropped slots"
+abbrev pub ranNumber : Ran → ℕ
+ranNumber (ran.Dropped n) = 0
+ranNumber ran.BadShape = 13
+ranNumber ran.BadState = 2
+ranNumber (ran.Refused k) = 10
+
+abbrev pub ranStep : Ran → ℕ
+ranStep (ran.Dropped n) = 0
+ranStep ran.BadShape = 0
+ranStep ran.BadState = 0
+ranStep (ran.Refused k) = k
+
+abbrev pub ranDropped : Ran → ℕ
+ranDropped (ran.Dropped n) = n
+ranDropped ran.BadShape = 0
+ranDropped ran.BadState = 0
+ranDropped (ran.Refused k) = 0

@@ -9,7 +9,9 @@ pub mod Asked
 pub mod Entry
 pub mod Tag
 pub mod Table
+pub mod Goes
 pub mod Answer
+pub mod Execute
 pub mod Pages
 pub mod Text
 pub mod Listing

@@ -1,10 +1,11 @@
-// The book's plain types: an operation, the processor state, an operand, an entry, and what the calls over them answer.
+// The book's plain types: an operation, the processor state, an operand, an entry, the work of an operation, and what the calls over them answer.
 mod entry;
 mod operand;
 mod operation;
 mod processor;
 mod scope;
 mod table;
+mod work;
 
 pub use entry::Company;
 pub use entry::Entry;
@@ -39,3 +40,7 @@ pub use scope::Security;
 pub use table::Inserted;
 pub use table::LookedUp;
 pub use table::Match;
+pub use work::Executed;
+pub use work::Ran;
+pub use work::Resolved;
+pub use work::Work;

@@ -1,4 +1,4 @@
-// The shape of a table.
+// The shape of a table and of a list.
 ghost use mathlib.Core.Path.{_≡_};
 ghost use Rattle.machine.specs.Table.{hasShape};
 
@@ -7,4 +7,11 @@ pub fn is_table(words: usize) -> bool
     ensures { λ r. ⌜ r ≡ hasShape 6144 words ⌝ }
 {
     (words % 3 == 0) & (words <= 6144)
+}
+
+// A multiple of three words, and at most 16 steps.
+pub fn is_list(words: usize) -> bool
+    ensures { λ r. ⌜ r ≡ hasShape 48 words ⌝ }
+{
+    (words % 3 == 0) & (words <= 48)
 }

@@ -1,27 +1,17 @@
 -- `operands::multiple::tlbip_exponent` meets its contract.
-use Prim.Native.Nat.{zero, ℕ, suc, _≤_, _<_}
+use Prim.Native.Nat.{_≤_, _<_}
 use mathlib.Core.Bool.{true}
 use mathlib.Core.Path.{_≡_, refl, ap, _∙_}
 use native.Mathlib.Omega.{arith}
 use lib.Dec.{lit≤}
 use lib.IntN.{pos}
-use mir.Syntax.{w8}
-use mir.Val.{toZ}
 use borrow.Author.Needs.{needs}
 use borrow.Author.Tests.{ne-eqb}
-use Rattle.machine.proofs.Spans.{level-low, exponent-low}
+use Rattle.machine.proofs.Spans.{level-low, ttl-level, exponent-low}
 use Rattle.machine.specs.Range.{tlbipExponent}
 use Rattle.machine.specs.Span.{exponentOf}
 use Rattle.operands.proofs.multiple.tlbip_exponent.Statement.{statement}
 use Rattle.operands.proofs.multiple.tlbip_exponent.Tie as tie
-
--- a TTL is a level as it is
-small : (n : ℕ) → n < 4 → toZ w8 n ≡ pos n
-small zero h = refl
-small (suc zero) h = refl
-small (suc (suc zero)) h = refl
-small (suc (suc (suc zero))) h = refl
-small (suc (suc (suc (suc n)))) h = absurd (omega arith)
 
 returns : tie.Need-returns
 unfolding tlbipExponent
@@ -35,7 +25,7 @@ exponent-of-requires c κs =
     let n = c .before .args .ttl in
     let h : n < 4 = omega arith in
     let l : n ≤ 3 = omega arith in
-    (omega arith, rw (small n h) (level-low n l))
+    (omega arith, rw (ttl-level n h) (level-low n l))
 
 returns-2 : tie.Need-returns-2
 unfolding tlbipExponent
@@ -44,7 +34,7 @@ returns-2 c =
     let h : a .ttl < 4 = omega arith in
     let l : a .ttl ≤ 3 = omega arith in
     let t : a .tg ≤ 3 = omega arith in
-    let e : c .exponent-of .result ≡ exponentOf true (a .tg) (pos (a .ttl)) = c .exponent-of .ensures .0 ∙ ap (exponentOf true (a .tg)) (small (a .ttl) h) in
+    let e : c .exponent-of .result ≡ exponentOf true (a .tg) (pos (a .ttl)) = c .exponent-of .ensures .0 ∙ ap (exponentOf true (a .tg)) (ttl-level (a .ttl) h) in
     (e ∙ simp (ne-eqb _ _ (c .before .if1 .left)), omega (arith, e, exponent-low true (a .tg) (a .ttl) t l))
 
 pub tlbip-exponent-spec : {M : Type 1} → statement M

@@ -3,9 +3,9 @@ use mathlib.Core.Path.{sym, ap, _∙_}
 use borrow.Author.Needs.{needs}
 use borrow.Author.Tests.{not-true, not-false}
 use Rattle.machine.proofs.Found.{match-empty, match-other, match-own}
-use Rattle.machine.specs.Table.{holdsAddress}
 use Rattle.machine.proofs.Tags.{reads-written}
 use Rattle.machine.specs.Entry.{isLegal}
+use Rattle.machine.specs.Table.{holdsAddress}
 use Rattle.tables.proofs.lookup.is_match.Statement.{statement}
 use Rattle.tables.proofs.lookup.is_match.Tie as tie
 

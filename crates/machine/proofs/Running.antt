@@ -1,0 +1,204 @@
+-- Run: its answer and the table case by case, the laws of a loop over the steps, and what every run keeps.
+use Prim.Native.Nat.{ℕ, _+_, _*_, _%_, _<_, _≤_}
+use mathlib.Core.Bool.{Bool, true, false, cond, not, _&&_}
+use mathlib.Core.List.{List, [], _∷_}
+use mathlib.Core.Path.{_≡_, refl, sym, ap, subst, _∙_}
+use native.Mathlib.Omega.{arith}
+use lib.Dec.{eqb, leb}
+use lib.ListN.{length, getD, drop, drop-of-length-le}
+use borrow.Author.Tests.{eqb-true, leb-true, ltb-true, lt-ltb, le-ltb}
+use Rattle.laws.proofs.Slots.{next-slot, first-none, first-holds}
+use Rattle.laws.proofs.Truth.{and-0, and-1}
+use Rattle.laws.specs.Slots.{slots, holdsAt, first, some}
+use Rattle.machine.proofs.Executing.{Holds, execute-good, execute-keeps, execute-length}
+use Rattle.machine.specs.Answer.{executedNumber, executedDropped, ranNumber, ranStep}
+use Rattle.machine.specs.Execute.{resolvedOf, executedBy, tableBy, executedOf, executeTable, isList, isWork, refuses, stepsTable, stepsDropped, ranOf, runTable}
+use Rattle.machine.specs.Goes.{drops}
+use Rattle.machine.specs.State.{badState}
+use Rattle.machine.specs.Table.{hasShape, isTable}
+use Rattle.machine.specs.declared.processor.State.{State}
+use Rattle.machine.specs.declared.work.Ran.the-variants.{Dropped, BadShape, BadState, Refused}
+use Rattle.machine.specs.declared.work.Resolved.{Resolved}
+use Rattle.machine.specs.declared.work.Work.{Work}
+use Rattle.machine.specs.declared.work.Resolved.the-variants as resolved
+
+-- a list's words are three to a step, and at most 48
+pub list-shape : (steps : List ℕ) → isList steps ≡ true → (length steps % 3 ≡ 0) × (length steps ≤ 48)
+list-shape l h =
+    (eqb-true (length l % 3) 0 (and-0 (eqb (length l % 3) 0) (leb (length l) 48) h), leb-true (length l) 48 (and-1 (eqb (length l % 3) 0) (leb (length l) 48) h))
+
+-- "Run: 13, 2, 10, else all steps in order and the sum of dropped slots."
+pub run-13 : (st : State) (steps l : List ℕ) → (isTable l && isList steps) ≡ false → (ranOf st steps l ≡ BadShape) × (runTable st steps l ≡ l)
+unfolding ranOf runTable
+run-13 st steps l h = (simp h, simp h)
+
+pub run-2 : (st : State) (steps l : List ℕ) → (isTable l && isList steps) ≡ true → badState st ≡ true → (ranOf st steps l ≡ BadState) × (runTable st steps l ≡ l)
+unfolding ranOf runTable
+run-2 st steps l h b = (simp (h, b), simp (h, b))
+
+pub run-10 : (st : State) (steps l : List ℕ) (k : ℕ) → (isTable l && isList steps) ≡ true → badState st ≡ false → k ≡ first (refuses st) steps → k < slots steps →
+    (ranOf st steps l ≡ Refused k) × (runTable st steps l ≡ l)
+unfolding ranOf runTable
+run-10 st steps l k h b f n =
+    let s : first (refuses st) steps < slots steps = omega arith in
+    let t = lt-ltb (first (refuses st) steps) (slots steps) s in
+    let a : ranOf st steps l ≡ Refused (first (refuses st) steps) = simp (h, b, t) in
+    (a ∙ ap Refused (sym f), simp (h, b, t))
+
+pub run-0 : (st : State) (steps l : List ℕ) → (isTable l && isList steps) ≡ true → badState st ≡ false → slots steps ≤ first (refuses st) steps →
+    (ranOf st steps l ≡ Dropped (stepsDropped st steps l)) × (runTable st steps l ≡ stepsTable st steps l)
+unfolding ranOf runTable
+run-0 st steps l h b n = let t = le-ltb (first (refuses st) steps) (slots steps) n in (simp (h, b, t), simp (h, b, t))
+
+-- "Each is given exactly when its row holds and no earlier check applies."
+pub run-answer : (st : State) (steps l : List ℕ) →
+    ranNumber (ranOf st steps l) ≡ cond (not (isTable l && isList steps)) 13 (cond (badState st) 2 (cond (some (refuses st) steps) 10 0))
+unfolding ranOf
+run-answer st steps l = go (isTable l && isList steps) (badState st) (some (refuses st) steps)
+  where
+    go : (a b c : Bool) →
+        ranNumber (cond a (cond b BadState (cond c (Refused (first (refuses st) steps)) (Dropped (stepsDropped st steps l)))) BadShape)
+        ≡ cond (not a) 13 (cond b 2 (cond c 10 0))
+    go true true c = refl
+    go true false true = refl
+    go true false false = refl
+    go false b c = refl
+
+-- "Every answer but 0 leaves all lent memory unchanged."
+pub run-refused : (st : State) (steps l : List ℕ) → (ranNumber (ranOf st steps l) ≡ 0 → ⊥) → runTable st steps l ≡ l
+unfolding ranOf runTable
+run-refused st steps l = go (isTable l && isList steps) (badState st) (some (refuses st) steps)
+  where
+    go : (a b c : Bool) →
+        (ranNumber (cond a (cond b BadState (cond c (Refused (first (refuses st) steps)) (Dropped (stepsDropped st steps l)))) BadShape) ≡ 0 → ⊥) →
+        cond a (cond b l (cond c l (stepsTable st steps l))) l ≡ l
+    go true true c n = refl
+    go true false true n = refl
+    go true false false n = absurd (n (let z : _≡_ {A = ℕ} 0 0 = refl in z))
+    go false b c n = refl
+
+-- "a list's step doesn't answer 0": a step is refused exactly where executing it would not answer 0
+pub refuses-answer : (st : State) (word xt xt2 : ℕ) (l : List ℕ) → isTable l ≡ true → badState st ≡ false →
+    refuses st word xt xt2 ≡ not (eqb (executedNumber (executedOf st word xt xt2 l)) 0)
+refuses-answer st word xt xt2 l h b =
+    go (resolvedOf st word xt xt2) ∙ ap (λ x. not (eqb (executedNumber x) 0)) (sym (execute-good st word xt xt2 l h b .0))
+  where
+    go : (r : Resolved) → not (isWork r) ≡ not (eqb (executedNumber (executedBy r l)) 0)
+    go (resolved.Works w) = refl
+    go resolved.Unknown = refl
+    go resolved.Undefined = refl
+    go (resolved.Trapped v) = refl
+    go resolved.NoEffect = refl
+    go resolved.NoGranule = refl
+    go resolved.Unpredictable = refl
+
+-- "first such step"
+pub record Stopped (st : State) (steps : List ℕ) (k : ℕ) : Type 0 where
+  pub within : k < slots steps
+  pub here : holdsAt (refuses st) steps k ≡ true
+  pub lowest : (j : ℕ) → j < k → holdsAt (refuses st) steps j ≡ false
+
+pub stopped : (st : State) (steps l : List ℕ) (k : ℕ) → ranOf st steps l ≡ Refused k → Stopped st steps k
+unfolding ranOf
+stopped st steps l k = go (isTable l && isList steps) (badState st) (some (refuses st) steps) refl
+  where
+    at : first (refuses st) steps < slots steps → first (refuses st) steps ≡ k → Stopped st steps k
+    at n e =
+        subst (Stopped st steps) e
+        (record {
+          within = n;
+          here = first-holds (refuses st) steps n;
+          lowest = λ (j : ℕ) (m : j < first (refuses st) steps). first-none (refuses st) steps j m;
+        })
+
+    go : (a b c : Bool) → some (refuses st) steps ≡ c →
+        cond a (cond b BadState (cond c (Refused (first (refuses st) steps)) (Dropped (stepsDropped st steps l)))) BadShape ≡ Refused k → Stopped st steps k
+    go true true c e h = absurd (let z : _≡_ {A = ℕ} 2 10 = ap ranNumber h in omega arith)
+    go true false true e h = at (ltb-true (first (refuses st) steps) (slots steps) e) (ap ranStep h)
+    go true false false e h = absurd (let z : _≡_ {A = ℕ} 0 10 = ap ranNumber h in omega arith)
+    go false b c e h = absurd (let z : _≡_ {A = ℕ} 13 10 = ap ranNumber h in omega arith)
+
+-- A loop over the steps has come to word i of the list, and n slots were dropped: what is left to do gives what the whole gives.
+abbrev pub Running : State → List ℕ → List ℕ → List ℕ → ℕ → ℕ → Type 0
+Running st steps old l i n =
+    (length l ≡ length old)
+    × (i ≤ length steps)
+    × (i % 3 ≡ 0)
+    × (n ≤ 2048 * i)
+    × (stepsTable st (drop i steps) l ≡ stepsTable st steps old)
+    × (n + stepsDropped st (drop i steps) l ≡ stepsDropped st steps old)
+
+-- at the start, at a step, and at the end
+pub running-start : (st : State) (steps old : List ℕ) → Running st steps old old 0 0
+running-start st steps old = (refl, omega arith, omega arith, omega arith, refl, omega arith)
+
+pub running-on : (st : State) (steps old l : List ℕ) (i n : ℕ) (r : Resolved) (d : ℕ) → isTable old ≡ true → badState st ≡ false → length steps % 3 ≡ 0 → i < length steps →
+    Running st steps old l i n → r ≡ resolvedOf st (getD steps i 0) (getD steps (i + 1) 0) (getD steps (i + 2) 0) → d ≡ executedDropped (executedBy r l) →
+    3 * d ≤ length l → Running st steps old (tableBy r l) (i + 3) (n + d)
+unfolding stepsTable stepsDropped
+running-on st steps old l i n r d shape good three h s e f few =
+    let (long, low, at, most, done, number) = s in
+    let fits : i + 2 < length steps = omega arith in
+    let rest = drop (i + 3) steps in
+    let word = getD steps i 0 in
+    let xt = getD steps (i + 1) 0 in
+    let xt2 = getD steps (i + 2) 0 in
+    let cut : drop i steps ≡ word ∷ xt ∷ xt2 ∷ rest = next-slot steps i fits in
+    let table : isTable l ≡ true = ap (hasShape 6144) long ∙ shape in
+    let (answer, new) = execute-good st word xt xt2 l table good in
+    let next : executeTable st word xt xt2 l ≡ tableBy r l = new ∙ ap (λ (x : Resolved). tableBy x l) (sym e) in
+    let count : executedDropped (executedOf st word xt xt2 l) ≡ d = ap executedDropped answer ∙ ap (λ (x : Resolved). executedDropped (executedBy x l)) (sym e) ∙ sym f in
+    let same : length (tableBy r l) ≡ length l = ap length (sym next) ∙ execute-length st word xt xt2 l in
+    let words : length l ≤ 6144 = leb-true (length l) 6144 (and-1 (eqb (length l % 3) 0) (leb (length l) 6144) table) in
+    let left : stepsTable st rest (tableBy r l) ≡ stepsTable st (drop i steps) l =
+    ap (stepsTable st rest) (sym next) ∙ ap (λ (m : List ℕ). stepsTable st m l) (sym cut) in
+    let sum : stepsDropped st (drop i steps) l ≡ d + stepsDropped st rest (tableBy r l) =
+    ap (λ (m : List ℕ). stepsDropped st m l) cut ∙ ap (λ (x : ℕ). x + stepsDropped st rest (executeTable st word xt xt2 l)) count ∙ ap (λ (m : List ℕ). d + stepsDropped st rest m) next in
+    (same ∙ long, omega arith, omega arith, omega arith, left ∙ done, omega (arith, sum, number))
+
+pub running-end : (st : State) (steps old l : List ℕ) (i n : ℕ) → length steps ≤ i → Running st steps old l i n →
+    (n ≡ stepsDropped st steps old) × (l ≡ stepsTable st steps old)
+unfolding stepsTable stepsDropped
+running-end st steps old l i n h s =
+    let (long, low, at, most, done, number) = s in
+    let none : drop i steps ≡ [] = drop-of-length-le steps h in
+    let zero : stepsDropped st (drop i steps) l ≡ 0 = ap (λ (m : List ℕ). stepsDropped st m l) none in
+    let same : stepsTable st (drop i steps) l ≡ l = ap (λ (m : List ℕ). stepsTable st m l) none in
+    (omega (arith, zero, number), sym same ∙ done)
+
+-- a slot that no operation can drop in a state keeps its words under every list
+pub steps-keep : (st : State) (k a b c : ℕ) →
+    ((word xt xt2 : ℕ) (w : Work) → resolvedOf st word xt xt2 ≡ resolved.Works w → drops w a b c ≡ false) →
+    (steps l : List ℕ) → k < slots l → Holds l k a b c → Holds (stepsTable st steps l) k a b c
+unfolding stepsTable
+steps-keep st k a b c never [] l n h = h
+steps-keep st k a b c never (x ∷ []) l n h = h
+steps-keep st k a b c never (x ∷ y ∷ []) l n h = h
+steps-keep st k a b c never (x ∷ y ∷ z ∷ steps) l n h =
+    let long = execute-length st x y z l in
+    steps-keep st k a b c never steps (executeTable st x y z l) (omega (arith, long)) (execute-keeps st l k a b c n h never x y z)
+
+pub run-keeps : (st : State) (k a b c : ℕ) →
+    ((word xt xt2 : ℕ) (w : Work) → resolvedOf st word xt xt2 ≡ resolved.Works w → drops w a b c ≡ false) →
+    (steps l : List ℕ) → k < slots l → Holds l k a b c → Holds (runTable st steps l) k a b c
+unfolding runTable
+run-keeps st k a b c never steps l n h = go (isTable l && isList steps) (badState st) (some (refuses st) steps)
+  where
+    go : (p q r : Bool) → Holds (cond p (cond q l (cond r l (stepsTable st steps l))) l) k a b c
+    go true true r = h
+    go true false true = h
+    go true false false = steps-keep st k a b c never steps l n h
+    go false q r = h
+
+-- a list of one step does what executing it does
+pub run-one : (st : State) (word xt xt2 : ℕ) (l : List ℕ) → isTable l ≡ true → badState st ≡ false → refuses st word xt xt2 ≡ false →
+    (ranOf st (word ∷ xt ∷ xt2 ∷ []) l ≡ Dropped (executedDropped (executedOf st word xt xt2 l))) × (runTable st (word ∷ xt ∷ xt2 ∷ []) l ≡ executeTable st word xt xt2 l)
+unfolding first stepsTable stepsDropped
+run-one st word xt xt2 l h b r =
+    let steps = word ∷ xt ∷ xt2 ∷ [] in
+    let one : first (refuses st) steps ≡ 1 = simp r in
+    let (answer, table) = run-0 st steps l (simp h) b (omega (arith, one)) in
+    (answer ∙ ap Dropped (plus (executedDropped (executedOf st word xt xt2 l))), table)
+  where
+    plus : (n : ℕ) → n + 0 ≡ n
+    plus n = omega arith

@@ -1,0 +1,67 @@
+// Which entries go.
+ghost use Prim.Native.Nat.{_≤_};
+ghost use mathlib.Core.Bool.{true};
+ghost use mathlib.Core.Path.{_≡_};
+ghost use Rattle.machine.specs.Entry.{isLegal};
+ghost use Rattle.machine.specs.Goes.{isReached, isOwned, isGranuleOf, isMet, isWidthOf, isAtHint, isHinted, hasWidth, isLeafOf, isAsidOf, isXsOf, goes};
+use machine::Entry;
+use machine::Work;
+use spans::exponent_of;
+use spans::meets;
+use spans::size;
+
+fn is_reached(work: Work, entry: Entry) -> bool
+    requires { ⌜ entry .processor ≤ 7 ⌝ }
+    ensures { λ r. ⌜ r ≡ isReached work entry ⌝ }
+{
+    work.reached / size(entry.processor as u64) % 2 == 1
+}
+
+fn is_met(work: Work, entry: Entry) -> bool
+    requires { ⌜ isLegal entry ≡ true ⌝ }
+    ensures { λ r. ⌜ r ≡ isMet work entry ⌝ }
+{
+    let k = exponent_of(entry.wide, entry.granule as u64, entry.level);
+    meets(entry.base, k, work.first, work.last)
+}
+
+fn is_width_of(work: Work, entry: Entry) -> bool
+    ensures { λ r. ⌜ r ≡ isWidthOf work entry ⌝ }
+{
+    if work.wide { entry.wide } else { !entry.wide }
+}
+
+fn is_at_hint(work: Work, entry: Entry) -> bool
+    ensures { λ r. ⌜ r ≡ isAtHint work entry ⌝ }
+{
+    if entry.leaf {
+        (entry.level <= work.level) & (work.level <= entry.level)
+    } else {
+        entry.level < work.level
+    }
+}
+
+fn is_asid_of(work: Work, entry: Entry) -> bool
+    ensures { λ r. ⌜ r ≡ isAsidOf work entry ⌝ }
+{
+    !work.one | (entry.asid as u64 == work.asid) | (entry.leaf & entry.global)
+}
+
+// An entry of the company and the granule that an operation acts on goes.
+pub fn goes(work: Work, entry: Entry) -> bool
+    requires { ⌜ (isLegal entry ≡ true) × (isOwned work entry ≡ true) × (isGranuleOf work entry ≡ true) ⌝ }
+    ensures { λ r. ⌜ r ≡ goes work entry ⌝ }
+{
+    let reached = is_reached(work, entry);
+    let met = is_met(work, entry);
+    let width = is_width_of(work, entry);
+    let at_hint = is_at_hint(work, entry);
+    let agrees = is_asid_of(work, entry);
+    reached
+        & met
+        & (!work.hinted | (width & at_hint))
+        & (width | (!work.hinted & work.d128))
+        & (!work.leaves | entry.leaf)
+        & agrees
+        & (!work.nxs | !entry.xs)
+}

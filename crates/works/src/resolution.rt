@@ -1,0 +1,91 @@
+// What an instruction word and two register words come to in a state.
+ghost use Prim.Native.Nat.{_<_};
+ghost use mathlib.Core.Path.{_≡_};
+ghost use Rattle.machine.specs.Access.{accessOf};
+ghost use Rattle.machine.specs.Asked.{askedOf};
+ghost use Rattle.machine.specs.Execute.{resolvedRange, resolvedAccess, resolvedOf};
+ghost use Rattle.machine.specs.Goes.{companyOf, workOf};
+use machine::Access;
+use machine::Company;
+use machine::Decoded;
+use machine::Operand;
+use machine::Operation;
+use machine::Range;
+use machine::Ranged;
+use machine::Resolved;
+use machine::Scope;
+use machine::State;
+use machine::Work;
+use operands::asked;
+use processor::decide;
+use words::OperationWord;
+
+pub fn resolve(state: State, word: u64, xt: u64, xt2: u64) -> Resolved
+    ensures { λ r. ⌜ r ≡ resolvedOf state word xt xt2 ⌝ }
+{
+    let read = OperationWord { bits: word }.read();
+    match read {
+        Decoded::Known(op) => by_access(state, op, xt, xt2),
+        Decoded::Unknown => Resolved::Unknown,
+    }
+}
+
+fn by_access(state: State, op: Operation, xt: u64, xt2: u64) -> Resolved
+    ensures { λ r. ⌜ r ≡ resolvedAccess state op xt xt2 (accessOf state op) ⌝ }
+{
+    match decide(state, op) {
+        Access::Undefined => Resolved::Undefined,
+        Access::Trapped(number) => Resolved::Trapped(number),
+        Access::NoEffect => Resolved::NoEffect,
+        Access::Runs(scope) => by_range(state, op, scope, xt, xt2),
+    }
+}
+
+fn by_range(state: State, op: Operation, scope: Scope, xt: u64, xt2: u64) -> Resolved
+    ensures { λ r. ⌜ r ≡ resolvedRange state op scope (askedOf state op scope xt xt2) ⌝ }
+{
+    match asked(state, op, scope, xt, xt2) {
+        Ranged::NoGranule => Resolved::NoGranule,
+        Ranged::Unpredictable => Resolved::Unpredictable,
+        Ranged::Covers(operand, range) => {
+            let work = work_of(state, op, scope, operand, range);
+            Resolved::Works(work)
+        }
+    }
+}
+
+fn company_of(scope: Scope, operand: Operand) -> Company
+    ensures { λ r. ⌜ r ≡ companyOf scope operand ⌝ }
+{
+    let regime = scope.regime;
+    let security = scope.security;
+    Company {
+        regime,
+        security,
+        vmid: scope.vmid,
+        stage2: scope.stage2,
+        ns: operand.ns == 1,
+    }
+}
+
+fn work_of(state: State, op: Operation, scope: Scope, operand: Operand, range: Range) -> Work
+    requires { ⌜ operand .ttl < 4 ⌝ }
+    ensures { λ r. ⌜ r ≡ workOf state op scope operand range ⌝ }
+{
+    let company = company_of(scope, operand);
+    Work {
+        company,
+        reached: scope.reached,
+        granule: operand.tg,
+        first: range.first,
+        last: range.last,
+        hinted: operand.ttl != 0,
+        level: operand.ttl as i8,
+        wide: op.tlbip,
+        d128: state.features.d128,
+        leaves: scope.last,
+        one: scope.asid,
+        asid: operand.asid,
+        nxs: scope.nxs,
+    }
+}
