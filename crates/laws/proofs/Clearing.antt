@@ -1,6 +1,6 @@
 -- Lists as slots of three: the slots that a test holds at cleared and counted, by a loop over them and word by word.
 use Prim.Native.Nat.{ℕ, zero, suc, _+_, _*_, _/_, _%_, _<_, _≤_}
-use mathlib.Core.Bool.{Bool, true, false, cond, _&&_}
+use mathlib.Core.Bool.{Bool, true, false, cond, _&&_, _||_}
 use mathlib.Core.List.{List, [], _∷_, _++_, append-nil}
 use mathlib.Core.Logic.{_↔_}
 use mathlib.Core.Path.{_≡_, refl, sym, ap, ap₂, _∙_}
@@ -205,3 +205,36 @@ cleared-emptied p q (a ∷ b ∷ c ∷ l) i z = go (p a b c) refl (cleared-empti
         emptied q (a ∷ b ∷ c ∷ l) (cond t (0 ∷ 0 ∷ 0 ∷ cleared p l) (a ∷ b ∷ c ∷ cleared p l)) ≡ cond t 1 0 + count p l
     go true e h = simp (i a b c e, h)
     go false e h = simp (zeros (q a b c) (eqb a 0) (eqb b 0) (eqb c 0) refl refl refl refl, h)
+
+-- clearing by one test and then by another, which zeros do not pass, is clearing by both
+pub cleared-both : (p q : ℕ → ℕ → ℕ → Bool) (l : List ℕ) → q 0 0 0 ≡ false →
+    (cleared q (cleared p l) ≡ cleared (λ a b c. p a b c || q a b c) l) × (count p l + count q (cleared p l) ≡ count (λ a b c. p a b c || q a b c) l)
+unfolding cleared count
+cleared-both p q [] z = (refl, refl)
+cleared-both p q (a ∷ []) z = (refl, refl)
+cleared-both p q (a ∷ b ∷ []) z = (refl, refl)
+cleared-both p q (a ∷ b ∷ c ∷ l) z = go (p a b c) (q a b c) refl (cleared-both p q l z)
+  where
+    r : ℕ → ℕ → ℕ → Bool
+    r = λ a b c. p a b c || q a b c
+
+    go : (s t : Bool) → q a b c ≡ t → (cleared q (cleared p l) ≡ cleared r l) × (count p l + count q (cleared p l) ≡ count r l) →
+        (cleared q (cond s (0 ∷ 0 ∷ 0 ∷ cleared p l) (a ∷ b ∷ c ∷ cleared p l)) ≡ cond (s || t) (0 ∷ 0 ∷ 0 ∷ cleared r l) (a ∷ b ∷ c ∷ cleared r l))
+        × (cond s 1 0 + count p l + count q (cond s (0 ∷ 0 ∷ 0 ∷ cleared p l) (a ∷ b ∷ c ∷ cleared p l)) ≡ cond (s || t) 1 0 + count r l)
+    go true t e i =
+        let n : count q (0 ∷ 0 ∷ 0 ∷ cleared p l) ≡ 0 + count q (cleared p l) = simp z in
+        (simp (z, i .0), omega (arith, n, i .1))
+    go false true e i =
+        let n : count q (a ∷ b ∷ c ∷ cleared p l) ≡ 1 + count q (cleared p l) = simp e in
+        (simp (e, i .0), omega (arith, n, i .1))
+    go false false e i =
+        let n : count q (a ∷ b ∷ c ∷ cleared p l) ≡ 0 + count q (cleared p l) = simp e in
+        (simp (e, i .0), omega (arith, n, i .1))
+
+-- where no slot passes, the list is what it was
+pub cleared-none : (p : ℕ → ℕ → ℕ → Bool) (l : List ℕ) → ((a b c : ℕ) → p a b c ≡ false) → (cleared p l ≡ l) × (count p l ≡ 0)
+unfolding cleared count
+cleared-none p [] n = (refl, refl)
+cleared-none p (a ∷ []) n = (refl, refl)
+cleared-none p (a ∷ b ∷ []) n = (refl, refl)
+cleared-none p (a ∷ b ∷ c ∷ l) n = let i = cleared-none p l n in (simp (n a b c, i .0), simp (n a b c, i .1))

@@ -7,7 +7,7 @@ use lib.IntN.{ℤ, pos, negsuc}
 use lib.ListN.{replicate}
 use Rattle.laws.specs.Every.{every}
 use Rattle.laws.specs.Slots.{first}
-use Rattle.machine.proofs.Sample.{two, three, NS, NSE, EEL2, E2H, TGE, RME, SEL2, at, boarded}
+use Rattle.machine.proofs.Sample.{two, three, NS, NSE, EEL2, E2H, TGE, RME, SEL2, at, boarded, stage1, stage2, guest, pageOf, page, placedOf, slot, zeros, junk}
 use Rattle.machine.specs.Answer.{insertedNumber, insertedSlot, lookedUpNumber, lookedUpSlot, lookedUpOut, lookedUpExamined}
 use Rattle.machine.specs.Entry.{isCompany, hasAsids, inReach, isLegal}
 use Rattle.machine.specs.Span.{isLevel, heightOf, exponentAt, exponentOf, hasSpan}
@@ -21,28 +21,6 @@ use Rattle.machine.specs.declared.scope.Regime.{Regime}
 use Rattle.machine.specs.declared.scope.Regime.the-variants.{EL10, EL20, EL2, EL3}
 use Rattle.machine.specs.declared.scope.Security.{Security}
 use Rattle.machine.specs.declared.scope.Security.the-variants.{Secure, NonSecure, Realm, Root}
-
--- Companies: stage 1 with a VMID; stage 2 with a VMID and an IPA space.
-abbrev stage1 : Regime → Security → ℕ → Company
-stage1 r s v = record { regime = r; security = s; vmid = v; stage2 = false; ns = false }
-
-abbrev stage2 : Regime → Security → ℕ → Bool → Company
-stage2 r s v n = record { regime = r; security = s; vmid = v; stage2 = true; ns = n }
-
-abbrev guest : Company
-guest = stage1 EL10 NonSecure 7
-
--- A 64-bit 4K page; one of processor 1 without an ASID; and an entry of any width, granule and level, with XS, of processor 1 and ASID 9.
-abbrev pageOf : Company → ℕ → ℕ → Bool → ℕ → Entry
-pageOf c p asid global base =
-    record { processor = p; company = c; asid = asid; global = global; wide = false; granule = 1; level = pos 3; leaf = true; xs = false; base = base }
-
-abbrev page : Company → ℕ → Entry
-page c base = pageOf c 1 0 false base
-
-abbrev placedOf : Bool → ℕ → ℤ → Bool → Bool → ℕ → Entry
-placedOf wide tg l leaf global base =
-    record { processor = 1; company = guest; asid = 9; global = global; wide = wide; granule = tg; level = l; leaf = leaf; xs = true; base = base }
 
 -- which of them are legal
 abbrev legality : List Entry → List Bool
@@ -273,17 +251,6 @@ pub senseless :
     ≡ replicate 13 false
 unfolding isEntry isLegal isCompany hasAsids inReach hasSpan isLevel exponentOf exponentAt heightOf tagOf companyTag companyAt entryAt
 senseless = refl
-
--- Slots as words.
-abbrev slot : Entry → ℕ → List ℕ
-slot e out = e .base ∷ tagOf e ∷ out ∷ []
-
-abbrev zeros : List ℕ
-zeros = 0 ∷ 0 ∷ 0 ∷ []
-
--- a slot that makes no sense
-abbrev junk : List ℕ
-junk = 5 ∷ 6 ∷ 7 ∷ []
 
 -- number, slot and table
 abbrev inserting : Entry → ℕ → List ℕ → ℕ × ℕ × List ℕ

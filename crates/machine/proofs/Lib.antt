@@ -15,6 +15,7 @@ pub mod Going
 pub mod Executing
 pub mod Running
 pub mod Corners
+pub mod Drops
 pub mod Covered
 pub mod Alike
 pub mod Pages

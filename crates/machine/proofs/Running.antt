@@ -1,21 +1,25 @@
 -- Run: its answer and the table case by case, the laws of a loop over the steps, and what every run keeps.
 use Prim.Native.Nat.{ℕ, _+_, _*_, _%_, _<_, _≤_}
-use mathlib.Core.Bool.{Bool, true, false, cond, not, _&&_}
+use mathlib.Core.Bool.{Bool, true, false, cond, not, _&&_, _||_}
 use mathlib.Core.List.{List, [], _∷_}
 use mathlib.Core.Path.{_≡_, refl, sym, ap, subst, _∙_}
 use native.Mathlib.Omega.{arith}
 use lib.Dec.{eqb, leb}
 use lib.ListN.{length, getD, drop, drop-of-length-le}
-use borrow.Author.Tests.{eqb-true, leb-true, ltb-true, lt-ltb, le-ltb}
+use borrow.Author.Tests.{eqb-true, leb-true, ltb-true, ltb-false, lt-ltb, le-ltb}
+use Rattle.laws.proofs.Clearing.{cleared-length, cleared-both, cleared-none, cleared-emptied}
 use Rattle.laws.proofs.Slots.{next-slot, first-none, first-holds}
 use Rattle.laws.proofs.Truth.{and-0, and-1}
-use Rattle.laws.specs.Slots.{slots, holdsAt, first, some}
-use Rattle.machine.proofs.Executing.{Holds, execute-good, execute-keeps, execute-length}
-use Rattle.machine.specs.Answer.{executedNumber, executedDropped, ranNumber, ranStep}
+use Rattle.laws.specs.Slots.{slots, holdsAt, count, first, some, cleared, emptied}
+use Rattle.machine.proofs.Executing.{Holds, slotReads, execute-good, execute-keeps, execute-length}
+use Rattle.machine.proofs.Going.{drop-reads}
+use Rattle.machine.proofs.Tags.{zero-empty}
+use Rattle.machine.specs.Answer.{executedNumber, executedDropped, ranNumber, ranStep, ranDropped}
 use Rattle.machine.specs.Execute.{resolvedOf, executedBy, tableBy, executedOf, executeTable, isList, isWork, refuses, stepsTable, stepsDropped, ranOf, runTable}
 use Rattle.machine.specs.Goes.{drops}
 use Rattle.machine.specs.State.{badState}
 use Rattle.machine.specs.Table.{hasShape, isTable}
+use Rattle.machine.specs.Tag.{isEntry}
 use Rattle.machine.specs.declared.processor.State.{State}
 use Rattle.machine.specs.declared.work.Ran.the-variants.{Dropped, BadShape, BadState, Refused}
 use Rattle.machine.specs.declared.work.Resolved.{Resolved}
@@ -202,3 +206,112 @@ run-one st word xt xt2 l h b r =
   where
     plus : (n : ℕ) → n + 0 ≡ n
     plus n = omega arith
+
+-- A run as one clearing: the slots that a step drops, and those that some step of a list drops.
+abbrev pub dropsBy : Resolved → ℕ → ℕ → ℕ → Bool
+dropsBy (resolved.Works w) a b c = drops w a b c
+dropsBy resolved.Unknown a b c = false
+dropsBy resolved.Undefined a b c = false
+dropsBy (resolved.Trapped v) a b c = false
+dropsBy resolved.NoEffect a b c = false
+dropsBy resolved.NoGranule a b c = false
+dropsBy resolved.Unpredictable a b c = false
+
+unfoldable pub dropsAny : State → List ℕ → ℕ → ℕ → ℕ → Bool
+dropsAny st [] a b c = false
+dropsAny st (word ∷ []) a b c = false
+dropsAny st (word ∷ xt ∷ []) a b c = false
+dropsAny st (word ∷ xt ∷ xt2 ∷ steps) a b c = dropsBy (resolvedOf st word xt xt2) a b c || dropsAny st steps a b c
+
+by-clear : (r : Resolved) (l : List ℕ) → (tableBy r l ≡ cleared (dropsBy r) l) × (executedDropped (executedBy r l) ≡ count (dropsBy r) l)
+by-clear (resolved.Works w) l = (refl, refl)
+by-clear resolved.Unknown l = let n = cleared-none (dropsBy resolved.Unknown) l (λ a b c. refl) in (sym (n .0), sym (n .1))
+by-clear resolved.Undefined l = let n = cleared-none (dropsBy resolved.Undefined) l (λ a b c. refl) in (sym (n .0), sym (n .1))
+by-clear (resolved.Trapped v) l = let n = cleared-none (dropsBy (resolved.Trapped v)) l (λ a b c. refl) in (sym (n .0), sym (n .1))
+by-clear resolved.NoEffect l = let n = cleared-none (dropsBy resolved.NoEffect) l (λ a b c. refl) in (sym (n .0), sym (n .1))
+by-clear resolved.NoGranule l = let n = cleared-none (dropsBy resolved.NoGranule) l (λ a b c. refl) in (sym (n .0), sym (n .1))
+by-clear resolved.Unpredictable l = let n = cleared-none (dropsBy resolved.Unpredictable) l (λ a b c. refl) in (sym (n .0), sym (n .1))
+
+-- only a slot that reads as an entry is dropped
+by-reads : (r : Resolved) (a b c : ℕ) → dropsBy r a b c ≡ true → isEntry a b ≡ true
+by-reads (resolved.Works w) a b c h = drop-reads w a b c h
+by-reads resolved.Unknown a b c h = absurd (let z : _≡_ {A = ℕ} 0 1 = cc in omega arith)
+by-reads resolved.Undefined a b c h = absurd (let z : _≡_ {A = ℕ} 0 1 = cc in omega arith)
+by-reads (resolved.Trapped v) a b c h = absurd (let z : _≡_ {A = ℕ} 0 1 = cc in omega arith)
+by-reads resolved.NoEffect a b c h = absurd (let z : _≡_ {A = ℕ} 0 1 = cc in omega arith)
+by-reads resolved.NoGranule a b c h = absurd (let z : _≡_ {A = ℕ} 0 1 = cc in omega arith)
+by-reads resolved.Unpredictable a b c h = absurd (let z : _≡_ {A = ℕ} 0 1 = cc in omega arith)
+
+pub any-reads : (st : State) (steps : List ℕ) (a b c : ℕ) → dropsAny st steps a b c ≡ true → isEntry a b ≡ true
+unfolding dropsAny
+any-reads st [] a b c h = absurd (let z : _≡_ {A = ℕ} 0 1 = cc in omega arith)
+any-reads st (x ∷ []) a b c h = absurd (let z : _≡_ {A = ℕ} 0 1 = cc in omega arith)
+any-reads st (x ∷ y ∷ []) a b c h = absurd (let z : _≡_ {A = ℕ} 0 1 = cc in omega arith)
+any-reads st (x ∷ y ∷ z ∷ steps) a b c h = go (dropsBy (resolvedOf st x y z) a b c) refl (any-reads st steps a b c) h
+  where
+    go : (t : Bool) → dropsBy (resolvedOf st x y z) a b c ≡ t → (dropsAny st steps a b c ≡ true → isEntry a b ≡ true) →
+        (t || dropsAny st steps a b c) ≡ true → isEntry a b ≡ true
+    go true e rest i = by-reads (resolvedOf st x y z) a b c e
+    go false e rest i = rest i
+
+any-zeros : (st : State) (steps : List ℕ) → dropsAny st steps 0 0 0 ≡ false
+any-zeros st steps = go (dropsAny st steps 0 0 0) refl
+  where
+    go : (t : Bool) → dropsAny st steps 0 0 0 ≡ t → t ≡ false
+    go true h = sym (any-reads st steps 0 0 0 h) ∙ zero-empty 0
+    go false h = refl
+
+-- the steps leave three zeros for each slot that some step drops, and every other word, and their sum is the number of those slots
+pub steps-clear : (st : State) (steps l : List ℕ) → isTable l ≡ true → badState st ≡ false →
+    (stepsTable st steps l ≡ cleared (dropsAny st steps) l) × (stepsDropped st steps l ≡ count (dropsAny st steps) l)
+unfolding stepsTable stepsDropped dropsAny
+steps-clear st [] l h b = let n = cleared-none (dropsAny st []) l (λ a b c. refl) in (sym (n .0), sym (n .1))
+steps-clear st (x ∷ []) l h b = let n = cleared-none (dropsAny st (x ∷ [])) l (λ a b c. refl) in (sym (n .0), sym (n .1))
+steps-clear st (x ∷ y ∷ []) l h b = let n = cleared-none (dropsAny st (x ∷ y ∷ [])) l (λ a b c. refl) in (sym (n .0), sym (n .1))
+steps-clear st (x ∷ y ∷ z ∷ steps) l h b =
+    let r = resolvedOf st x y z in
+    let (answer, new) = execute-good st x y z l h b in
+    let (table, number) = by-clear r l in
+    let now : executeTable st x y z l ≡ cleared (dropsBy r) l = new ∙ table in
+    let few : executedDropped (executedOf st x y z l) ≡ count (dropsBy r) l = ap executedDropped answer ∙ number in
+    let shape : isTable (executeTable st x y z l) ≡ true = ap (hasShape 6144) (execute-length st x y z l) ∙ h in
+    let (rest, sum) = steps-clear st steps (executeTable st x y z l) shape b in
+    let (both, total) = cleared-both (dropsBy r) (dropsAny st steps) l (any-zeros st steps) in
+    let left : count (dropsAny st steps) (executeTable st x y z l) ≡ count (dropsAny st steps) (cleared (dropsBy r) l) = ap (count (dropsAny st steps)) now in
+    (rest ∙ ap (cleared (dropsAny st steps)) now ∙ both, omega (arith, few, sum, left, total))
+
+-- what holds where run answers 0
+pub record RanAll (st : State) (steps l : List ℕ) : Type 0 where
+  -- an entry is gone exactly when some step drops it; every other word stays
+  pub table : runTable st steps l ≡ cleared (dropsAny st steps) l
+  pub as-long : length (runTable st steps l) ≡ length l
+  -- the sum is the number of slots that read as an entry and are three zeros now
+  pub number : ranDropped (ranOf st steps l) ≡ emptied slotReads l (runTable st steps l)
+
+pub ran-done : (st : State) (steps l : List ℕ) → ranNumber (ranOf st steps l) ≡ 0 →
+    (isTable l ≡ true) × (isList steps ≡ true) × (badState st ≡ false) × (slots steps ≤ first (refuses st) steps)
+unfolding ranOf
+ran-done st steps l = go (isTable l) refl (isList steps) refl (badState st) refl (some (refuses st) steps) refl
+  where
+    go : (a : Bool) → isTable l ≡ a → (d : Bool) → isList steps ≡ d → (b : Bool) → badState st ≡ b → (c : Bool) → some (refuses st) steps ≡ c →
+        ranNumber (cond (a && d) (cond b BadState (cond c (Refused (first (refuses st) steps)) (Dropped (stepsDropped st steps l)))) BadShape) ≡ 0 →
+        (isTable l ≡ true) × (isList steps ≡ true) × (badState st ≡ false) × (slots steps ≤ first (refuses st) steps)
+    go true ea true ed false eb false ec h = (ea, ed, eb, ltb-false (first (refuses st) steps) (slots steps) ec)
+    go true ea true ed false eb true ec h = absurd (let z : _≡_ {A = ℕ} 10 0 = h in omega arith)
+    go true ea true ed true eb c ec h = absurd (let z : _≡_ {A = ℕ} 2 0 = h in omega arith)
+    go true ea false ed b eb c ec h = absurd (let z : _≡_ {A = ℕ} 13 0 = h in omega arith)
+    go false ea d ed b eb c ec h = absurd (let z : _≡_ {A = ℕ} 13 0 = h in omega arith)
+
+pub ran-all : (st : State) (steps l : List ℕ) → ranNumber (ranOf st steps l) ≡ 0 → RanAll st steps l
+ran-all st steps l h =
+    let (shape, list, good, none) = ran-done st steps l h in
+    let (answer, new) = run-0 st steps l (simp (shape, list)) good none in
+    let (table, number) = steps-clear st steps l shape good in
+    let now : runTable st steps l ≡ cleared (dropsAny st steps) l = new ∙ table in
+    let few : emptied slotReads l (runTable st steps l) ≡ count (dropsAny st steps) l =
+    ap (emptied slotReads l) now ∙ cleared-emptied (dropsAny st steps) slotReads l (any-reads st steps) (zero-empty 0) in
+    record {
+      table = now;
+      as-long = ap length now ∙ cleared-length (dropsAny st steps) l;
+      number = ap ranDropped answer ∙ number ∙ sym few;
+    }

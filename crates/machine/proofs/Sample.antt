@@ -1,14 +1,22 @@
--- States to compute with, each by its level and the names of what is set in it.
+-- States to compute with, each by its level and the names of what is set in it; and companies, entries and slots.
 use Prim.Native.Nat.{ℕ}
-use mathlib.Core.Bool.{Bool, false, not, _||_}
+use mathlib.Core.Bool.{Bool, true, false, not, _||_}
 use mathlib.Core.List.{List, [], _∷_, _++_}
 use lib.Dec.{eqb}
+use lib.IntN.{ℤ, pos}
+use Rattle.machine.specs.Tag.{tagOf}
+use Rattle.machine.specs.declared.entry.Company.{Company}
+use Rattle.machine.specs.declared.entry.Entry.{Entry}
 use Rattle.machine.specs.declared.processor.Board.{Board}
 use Rattle.machine.specs.declared.processor.Ds.{Ds}
 use Rattle.machine.specs.declared.processor.Features.{Features}
 use Rattle.machine.specs.declared.processor.Flags.{Flags}
 use Rattle.machine.specs.declared.processor.State.{State}
 use Rattle.machine.specs.declared.processor.Traps.{Traps}
+use Rattle.machine.specs.declared.scope.Regime.{Regime}
+use Rattle.machine.specs.declared.scope.Regime.the-variants.{EL10}
+use Rattle.machine.specs.declared.scope.Security.{Security}
+use Rattle.machine.specs.declared.scope.Security.the-variants.{NonSecure}
 
 -- EL2 and EL3 present
 abbrev pub two : ℕ
@@ -162,3 +170,36 @@ boarded n o inner outer = stateOn (record {
 abbrev pub hostWithDs : ℕ → List ℕ → State
 hostWithDs k l =
     stateOn three-processors (record { el1 = eqb k 0; el2 = eqb k 1; el3 = eqb k 2; stage2 = eqb k 3 }) 2 (two ∷ E2H ∷ TGE ∷ l)
+
+-- Companies: stage 1 with a VMID; stage 2 with a VMID and an IPA space.
+abbrev pub stage1 : Regime → Security → ℕ → Company
+stage1 r s v = record { regime = r; security = s; vmid = v; stage2 = false; ns = false }
+
+abbrev pub stage2 : Regime → Security → ℕ → Bool → Company
+stage2 r s v n = record { regime = r; security = s; vmid = v; stage2 = true; ns = n }
+
+abbrev pub guest : Company
+guest = stage1 EL10 NonSecure 7
+
+-- A 64-bit 4K page; one of processor 1 without an ASID; and an entry of any width, granule and level, with XS, of processor 1 and ASID 9.
+abbrev pub pageOf : Company → ℕ → ℕ → Bool → ℕ → Entry
+pageOf c p asid global base =
+    record { processor = p; company = c; asid = asid; global = global; wide = false; granule = 1; level = pos 3; leaf = true; xs = false; base = base }
+
+abbrev pub page : Company → ℕ → Entry
+page c base = pageOf c 1 0 false base
+
+abbrev pub placedOf : Bool → ℕ → ℤ → Bool → Bool → ℕ → Entry
+placedOf wide tg l leaf global base =
+    record { processor = 1; company = guest; asid = 9; global = global; wide = wide; granule = tg; level = l; leaf = leaf; xs = true; base = base }
+
+-- Slots as words.
+abbrev pub slot : Entry → ℕ → List ℕ
+slot e out = e .base ∷ tagOf e ∷ out ∷ []
+
+abbrev pub zeros : List ℕ
+zeros = 0 ∷ 0 ∷ 0 ∷ []
+
+-- a slot that makes no sense
+abbrev pub junk : List ℕ
+junk = 5 ∷ 6 ∷ 7 ∷ []

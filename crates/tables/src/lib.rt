@@ -1,11 +1,9 @@
-// Tables of slots: insert, look up, execute and run.
-mod execution;
+// Tables of slots: their shape, insert and look up.
 mod insert;
 mod lookup;
-mod running;
 mod shape;
 
-pub use execution::execute;
 pub use insert::insert_entry;
 pub use lookup::look_up;
-pub use running::run;
+pub use shape::is_list;
+pub use shape::is_table;

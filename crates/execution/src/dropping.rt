@@ -1,0 +1,57 @@
+// One pass over the slots of a table, which drops the entries that go.
+ghost use Prim.Native.Nat.{_+_, _*_, _%_, _^_, _<_, _≤_};
+ghost use mathlib.Core.Path.{_≡_};
+ghost use lib.ListN.{length};
+ghost use Rattle.laws.specs.Slots.{count, cleared};
+ghost use Rattle.machine.specs.Goes.{drops};
+ghost use Rattle.machine.specs.Tag.{companyTag};
+use entries::company_tag;
+use entries::entry_at;
+use entries::is_entry;
+use machine::Work;
+use works::goes;
+
+// Three zeros for each slot that is dropped, and how many there are.
+pub fn drop_all(table: &mut [u64], work: Work) -> usize
+    requires { ⌜ (length (now table) % 3 ≡ 0) × (work .granule ≤ 3) ⌝ }
+    ensures { λ r. ⌜ r ≡ count (drops work) (now (table .entry)) ⌝ }
+    ensures { λ r. ⌜ now (table .exit) ≡ cleared (drops work) (now (table .entry)) ⌝ }
+{
+    let key = key_of(work);
+    let mut i = 0;
+    let mut n = 0;
+    while i < table.len() {
+        if is_dropped(key, work, table[i], table[i + 1]) {
+            table[i] = 0;
+            table[i + 1] = 0;
+            table[i + 2] = 0;
+            n += 1;
+        }
+        i += 3;
+    }
+    n
+}
+
+// The lower part of the tag of every entry of the company and the granule.
+fn key_of(work: Work) -> u64
+    requires { ⌜ work .granule ≤ 3 ⌝ }
+    ensures { λ r. ⌜ (r ≡ companyTag (work .company) + work .granule * 2 ^ 26) × (companyTag (work .company) < 2 ^ 26) × (work .company .vmid < 2 ^ 16) ⌝ }
+{
+    let company = work.company;
+    company_tag(company) + work.granule * 0x4000000
+}
+
+// One compare turns away the slots of other companies and granules.
+fn is_dropped(key: u64, work: Work, base: u64, tag: u64) -> bool
+    requires { ⌜ (key ≡ companyTag (work .company) + work .granule * 2 ^ 26) × (companyTag (work .company) < 2 ^ 26) × (work .company .vmid < 2 ^ 16) × (work .granule ≤ 3) ⌝ }
+    ensures { λ r. ⌜ r ≡ drops work base tag 0 ⌝ }
+{
+    if tag % 0x10000000 != key {
+        return false;
+    }
+    if !is_entry(base, tag) {
+        return false;
+    }
+    let entry = entry_at(base, tag);
+    goes(work, entry)
+}

@@ -1,0 +1,8 @@
+// Execute and run: what operations do to a table.
+mod dropping;
+mod refusal;
+mod running;
+mod single;
+
+pub use running::run;
+pub use single::execute;

@@ -1,0 +1,45 @@
+// Execute: one operation on a table.
+ghost use Prim.Native.Nat.{_%_};
+ghost use mathlib.Core.Path.{_≡_};
+ghost use lib.ListN.{length};
+ghost use Rattle.machine.specs.Execute.{executedBy, tableBy, resolvedOf, executedOf, executeTable};
+use crate::dropping::drop_all;
+use machine::Executed;
+use machine::Resolved;
+use machine::State;
+use processor::is_bad;
+use tables::is_table;
+use works::resolve;
+
+pub fn execute(table: &mut [u64], state: State, word: u64, xt: u64, xt2: u64) -> Executed
+    ensures { λ r. ⌜ r ≡ executedOf state word xt xt2 (now (table .entry)) ⌝ }
+    ensures { λ r. ⌜ now (table .exit) ≡ executeTable state word xt xt2 (now (table .entry)) ⌝ }
+{
+    if !is_table(table.len()) {
+        return Executed::BadShape;
+    }
+    if is_bad(state) {
+        return Executed::BadState;
+    }
+    carry_out(table, state, word, xt, xt2)
+}
+
+// Of a table in shape, in a good state.
+pub fn carry_out(table: &mut [u64], state: State, word: u64, xt: u64, xt2: u64) -> Executed
+    requires { ⌜ length (now table) % 3 ≡ 0 ⌝ }
+    ensures { λ r. ⌜ r ≡ executedBy (resolvedOf state word xt xt2) (now (table .entry)) ⌝ }
+    ensures { λ r. ⌜ now (table .exit) ≡ tableBy (resolvedOf state word xt xt2) (now (table .entry)) ⌝ }
+{
+    match resolve(state, word, xt, xt2) {
+        Resolved::Works(work) => {
+            let n = drop_all(table, work);
+            Executed::Dropped(n)
+        }
+        Resolved::Unknown => Executed::Unknown,
+        Resolved::Undefined => Executed::Undefined,
+        Resolved::Trapped(number) => Executed::Trapped(number),
+        Resolved::NoEffect => Executed::NoEffect,
+        Resolved::NoGranule => Executed::NoGranule,
+        Resolved::Unpredictable => Executed::Unpredictable,
+    }
+}
