@@ -1,9 +1,9 @@
 // One pass over the slots of a table, which drops the entries that go.
-ghost use Prim.Native.Nat.{_+_, _*_, _%_, _^_, _<_, _≤_};
+ghost use Prim.Native.Nat.{_%_, _^_, _<_, _≤_};
 ghost use mathlib.Core.Path.{_≡_};
 ghost use lib.ListN.{length};
 ghost use Rattle.laws.specs.Slots.{count, cleared};
-ghost use Rattle.machine.specs.Goes.{drops};
+ghost use Rattle.machine.specs.Goes.{keyOf, drops};
 ghost use Rattle.machine.specs.Tag.{companyTag};
 use entries::company_tag;
 use entries::entry_at;
@@ -35,7 +35,7 @@ pub fn drop_all(table: &mut [u64], work: Work) -> usize
 // The lower part of the tag of every entry of the company and the granule.
 fn key_of(work: Work) -> u64
     requires { ⌜ work .granule ≤ 3 ⌝ }
-    ensures { λ r. ⌜ (r ≡ companyTag (work .company) + work .granule * 2 ^ 26) × (companyTag (work .company) < 2 ^ 26) × (work .company .vmid < 2 ^ 16) ⌝ }
+    ensures { λ r. ⌜ (r ≡ keyOf work) × (companyTag (work .company) < 2 ^ 26) × (work .company .vmid < 2 ^ 16) ⌝ }
 {
     let company = work.company;
     company_tag(company) + work.granule * 0x4000000
@@ -43,7 +43,7 @@ fn key_of(work: Work) -> u64
 
 // One compare turns away the slots of other companies and granules.
 fn is_dropped(key: u64, work: Work, base: u64, tag: u64) -> bool
-    requires { ⌜ (key ≡ companyTag (work .company) + work .granule * 2 ^ 26) × (companyTag (work .company) < 2 ^ 26) × (work .company .vmid < 2 ^ 16) × (work .granule ≤ 3) ⌝ }
+    requires { ⌜ (key ≡ keyOf work) × (companyTag (work .company) < 2 ^ 26) × (work .company .vmid < 2 ^ 16) × (work .granule ≤ 3) ⌝ }
     ensures { λ r. ⌜ r ≡ drops work base tag 0 ⌝ }
 {
     if tag % 0x10000000 != key {

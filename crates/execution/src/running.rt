@@ -53,7 +53,7 @@ fn run_steps(table: &mut [u64], state: State, list: &[u64]) -> usize
     n
 }
 
-// How many slots one step drops.
+// One step, and how many slots it drops.
 fn run_step(table: &mut [u64], state: State, word: u64, xt: u64, xt2: u64) -> usize
     requires { ⌜ length (now table) % 3 ≡ 0 ⌝ }
     ensures { λ r. ⌜ (r ≡ executedDropped (executedBy (resolvedOf state word xt xt2) (now (table .entry)))) × (3 * r ≤ length (now (table .entry))) ⌝ }

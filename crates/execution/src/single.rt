@@ -24,7 +24,7 @@ pub fn execute(table: &mut [u64], state: State, word: u64, xt: u64, xt2: u64) ->
     carry_out(table, state, word, xt, xt2)
 }
 
-// Of a table in shape, in a good state.
+// What execute does after its checks of shape and state.
 pub fn carry_out(table: &mut [u64], state: State, word: u64, xt: u64, xt2: u64) -> Executed
     requires { ⌜ length (now table) % 3 ≡ 0 ⌝ }
     ensures { λ r. ⌜ r ≡ executedBy (resolvedOf state word xt xt2) (now (table .entry)) ⌝ }

@@ -6,10 +6,10 @@ use mathlib.Core.Logic.{_↔_}
 use mathlib.Core.Path.{_≡_, refl, sym, ap, ap₂, _∙_}
 use native.Mathlib.Numerals.{add-one, add-two, add-three}
 use native.Mathlib.Omega.{arith}
-use lib.Dec.{eqb}
-use lib.ListN.{length, getD, take, drop, set, length-set, drop-of-length-le}
+use lib.Dec.{eqb, ltb}
+use lib.ListN.{length, getD, take, drop, set, length-set, drop-of-length-le, List·getD-eq-default}
 use lib.Seq.{take-all}
-use borrow.Author.Tests.{eqb-true}
+use borrow.Author.Tests.{eqb-true, ltb-true, ltb-false}
 use Rattle.laws.proofs.Slots.{slot-same, next-slot, next-holds}
 use Rattle.laws.specs.Slots.{slots, holdsAt, count, first, cleared, emptied}
 
@@ -238,3 +238,34 @@ cleared-none p [] n = (refl, refl)
 cleared-none p (a ∷ []) n = (refl, refl)
 cleared-none p (a ∷ b ∷ []) n = (refl, refl)
 cleared-none p (a ∷ b ∷ c ∷ l) n = let i = cleared-none p l n in (simp (n a b c, i .0), simp (n a b c, i .1))
+
+-- every word of a slot that does not pass stays
+pub cleared-word : (p : ℕ → ℕ → ℕ → Bool) (l : List ℕ) (i : ℕ) → length l % 3 ≡ 0 → holdsAt p l (i / 3) ≡ false → getD (cleared p l) i 0 ≡ getD l i 0
+cleared-word p l i three h = go (ltb i (length l)) refl
+  where
+    place : (j : ℕ) → getD (cleared p l) j 0 ≡ cond (holdsAt p l (i / 3)) 0 (getD l j 0) → getD (cleared p l) j 0 ≡ getD l j 0
+    place j e = e ∙ simp h
+
+    at : (j : ℕ) → i ≡ j → getD (cleared p l) j 0 ≡ getD l j 0 → getD (cleared p l) i 0 ≡ getD l i 0
+    at j e q = ap (λ (n : ℕ). getD (cleared p l) n 0) e ∙ q ∙ ap (λ (n : ℕ). getD l n 0) (sym e)
+
+    which : (r : ℕ) → i % 3 ≡ r → i / 3 < slots l → getD (cleared p l) i 0 ≡ getD l i 0
+    which zero e n = at (3 * (i / 3)) (omega arith) (place (3 * (i / 3)) (cleared-slot p l (i / 3) n .0))
+    which (suc zero) e n = at (3 * (i / 3) + 1) (omega arith) (place (3 * (i / 3) + 1) (cleared-slot p l (i / 3) n .1))
+    which (suc (suc zero)) e n = at (3 * (i / 3) + 2) (omega arith) (place (3 * (i / 3) + 2) (cleared-slot p l (i / 3) n .2))
+    which (suc (suc (suc r))) e n = absurd (omega arith)
+
+    go : (b : Bool) → ltb i (length l) ≡ b → getD (cleared p l) i 0 ≡ getD l i 0
+    go true e = let low : i < length l = ltb-true i (length l) e in which (i % 3) refl (omega arith)
+    go false e =
+        let high : length l ≤ i = ltb-false i (length l) e in
+        List·getD-eq-default (cleared p l) 0 {n = i} (omega (arith, high, cleared-length p l)) ∙ sym (List·getD-eq-default l 0 {n = i} high)
+
+-- and nothing is emptied where nothing changes
+pub emptied-same : (q : ℕ → ℕ → ℕ → Bool) (l : List ℕ) → q 0 0 0 ≡ false → emptied q l l ≡ 0
+emptied-same q l z =
+    let (same, none) = cleared-none never l (λ a b c. refl) in
+    ap (emptied q l) (sym same) ∙ cleared-emptied never q l (λ a b c h. absurd (let y : _≡_ {A = ℕ} 0 1 = cc in omega arith)) z ∙ none
+  where
+    never : ℕ → ℕ → ℕ → Bool
+    never a b c = false

@@ -1,20 +1,19 @@
 -- Execute: its answer and the table case by case, which entries are gone, what stays, and the count.
-use Prim.Native.Nat.{ℕ, _+_, _*_, _<_, _≤_}
+use Prim.Native.Nat.{_/_, ℕ, _+_, _*_, _<_, _≤_}
 use mathlib.Core.Bool.{Bool, true, false, cond, not}
 use mathlib.Core.List.{List}
 use mathlib.Core.Path.{_≡_, refl, sym, ap, subst, _∙_}
 use native.Mathlib.Omega.{arith}
 use lib.ListN.{length, getD}
-use Rattle.laws.proofs.Clearing.{cleared-length, cleared-slot, cleared-emptied, count-most}
+use Rattle.laws.proofs.Clearing.{cleared-length, cleared-slot, cleared-word, cleared-emptied, emptied-same, count-most}
 use Rattle.laws.proofs.Slots.{slot-same}
-use Rattle.laws.specs.Mask.{bitOf}
 use Rattle.laws.specs.Slots.{slots, holdsAt, count, cleared, emptied}
 use Rattle.machine.proofs.Going.{going, drop-reads, drop-empty, drop-entry}
-use Rattle.machine.proofs.Reach.{reached-bit}
+use Rattle.machine.proofs.Inserting.{table-shape}
 use Rattle.machine.proofs.Tags.{company-one, legal, reads-written, zero-empty}
-use Rattle.machine.proofs.Works.{Owner, owner, owner-guest, resolves, scoped}
-use Rattle.machine.specs.Access.{reaches, reachedOf, accessOf}
-use Rattle.machine.specs.Answer.{accessNumber, accessValue, rangedNumber, executedNumber, executedTrap, executedDropped}
+use Rattle.machine.proofs.Works.{Owner, owner, owner-guest, work-reached, resolves, scoped-below}
+use Rattle.machine.specs.Access.{reaches, accessOf}
+use Rattle.machine.specs.Answer.{accessNumber, accessValue, rangedNumber, resolvedNumber, executedNumber, executedTrap, executedDropped}
 use Rattle.machine.specs.Asked.{askedOf}
 use Rattle.machine.specs.Execute.{resolvedRange, resolvedAccess, resolvedWord, resolvedOf, executedBy, tableBy, executedOf, executeTable}
 use Rattle.machine.specs.Goes.{workOf, goes, drops}
@@ -22,15 +21,16 @@ use Rattle.machine.specs.State.{badState}
 use Rattle.machine.specs.Table.{isTable, stage1Of}
 use Rattle.machine.specs.Tag.{entryAt, isEntry}
 use Rattle.machine.specs.Word.{readOf}
+use Rattle.machine.specs.declared.entry.Company.{Company}
 use Rattle.machine.specs.declared.entry.Entry.{Entry}
 use Rattle.machine.specs.declared.operand.Ranged.{Ranged}
-use Rattle.machine.specs.declared.operation.Decoded.{Decoded}
 use Rattle.machine.specs.declared.operation.Decoded.the-variants.{Known, Unknown}
 use Rattle.machine.specs.declared.operation.Operation.{Operation}
 use Rattle.machine.specs.declared.processor.State.{State}
 use Rattle.machine.specs.declared.scope.Access.{Access}
-use Rattle.machine.specs.declared.scope.Regime.the-variants.{EL10}
+use Rattle.machine.specs.declared.scope.Regime.the-variants.{EL10, EL3}
 use Rattle.machine.specs.declared.scope.Scope.{Scope}
+use Rattle.machine.specs.declared.work.Executed.{Executed}
 use Rattle.machine.specs.declared.work.Resolved.{Resolved}
 use Rattle.machine.specs.declared.work.Work.{Work}
 use Rattle.machine.specs.declared.operand.Ranged.the-variants as ranged
@@ -60,7 +60,25 @@ execute-work st word xt xt2 l w h b e =
     let (answer, table) = execute-good st word xt xt2 l h b in
     (answer ∙ ap (λ (r : Resolved). executedBy r l) e, table ∙ ap (λ (r : Resolved). tableBy r l) e)
 
--- "1: word isn't one of the operations"
+-- "Each is given exactly when its row holds and no earlier check applies."
+pub execute-answer : (st : State) (word xt xt2 : ℕ) (l : List ℕ) →
+    executedNumber (executedOf st word xt xt2 l) ≡ cond (not (isTable l)) 13 (cond (badState st) 2 (resolvedNumber (resolvedOf st word xt xt2)))
+unfolding executedOf
+execute-answer st word xt xt2 l = go (isTable l) (badState st) (resolvedOf st word xt xt2)
+  where
+    go : (a b : Bool) (r : Resolved) →
+        executedNumber (cond a (cond b executed.BadState (executedBy r l)) executed.BadShape) ≡ cond (not a) 13 (cond b 2 (resolvedNumber r))
+    go true true r = refl
+    go true false (resolved.Works w) = refl
+    go true false resolved.Unknown = refl
+    go true false resolved.Undefined = refl
+    go true false (resolved.Trapped v) = refl
+    go true false resolved.NoEffect = refl
+    go true false resolved.NoGranule = refl
+    go true false resolved.Unpredictable = refl
+    go false b r = refl
+
+-- 1: "word isn't one of the operations"
 pub execute-1 : (st : State) (word xt xt2 : ℕ) (l : List ℕ) → isTable l ≡ true → badState st ≡ false → readOf word ≡ Unknown →
     executedNumber (executedOf st word xt xt2 l) ≡ 1
 unfolding resolvedOf
@@ -165,6 +183,7 @@ pub record After (st : State) (word xt xt2 : ℕ) (l : List ℕ) (w : Work) : Ty
   pub zeros : (k : ℕ) → k < slots l → holdsAt (drops w) l k ≡ true → Holds (executeTable st word xt xt2 l) k 0 0 0
   pub stays : (k : ℕ) → k < slots l → holdsAt (drops w) l k ≡ false →
       Holds (executeTable st word xt xt2 l) k (getD l (3 * k) 0) (getD l (3 * k + 1) 0) (getD l (3 * k + 2) 0)
+  pub words : (i : ℕ) → holdsAt (drops w) l (i / 3) ≡ false → getD (executeTable st word xt xt2 l) i 0 ≡ getD l i 0
   pub as-long : length (executeTable st word xt xt2 l) ≡ length l
   -- an entry is gone exactly when it goes
   pub exactly : (k : ℕ) → k < slots l → holdsAt slotReads l k ≡ true → holdsAt slotReads (executeTable st word xt xt2 l) k ≡ not (goes w (slotEntry l k))
@@ -177,6 +196,7 @@ pub after : (st : State) (word xt xt2 : ℕ) (l : List ℕ) → (d : Done st wor
 after st word xt xt2 l d = record {
   zeros = zeros;
   stays = stays;
+  words = λ (i : ℕ) (h : holdsAt (drops w) l (i / 3) ≡ false). ap (λ (m : List ℕ). getD m i 0) new ∙ cleared-word (drops w) l i (table-shape l (d .shape) .0) h;
   as-long = ap length new ∙ cleared-length (drops w) l;
   exactly = exactly;
   empty = λ (k : ℕ) (n : k < slots l) (h : holdsAt slotReads l k ≡ false). kept k n (drop-empty w (getD l (3 * k) 0) (getD l (3 * k + 1) 0) (getD l (3 * k + 2) 0) h) ∙ h;
@@ -230,35 +250,22 @@ dropped-guest st word xt xt2 w base tag out el e h = dropped-company w base tag 
 -- "its processor is below the count and reached"
 pub dropped-reached : (st : State) (word xt xt2 : ℕ) (w : Work) (base tag out : ℕ) (op : Operation) → resolvedOf st word xt xt2 ≡ resolved.Works w →
     readOf word ≡ Known op → drops w base tag out ≡ true → reaches st op (entryAt base tag .processor) ≡ true
-unfolding workOf
 dropped-reached st word xt xt2 w base tag out op e known h =
-    let it = resolves st word xt xt2 w e in
     let reads = drop-reads w base tag out h in
     let p = entryAt base tag .processor in
     let low : p < 8 = omega (arith, legal (entryAt base tag) (reads-written base tag reads .1) .processor) in
-    let hit = going w (entryAt base tag) (sym (drop-entry w base tag out reads) ∙ h) .reached in
-    let mask : w .reached ≡ reachedOf st (it .operation) = ap (λ (v : Work). v .reached) (sym (it .work)) ∙ scoped st (it .operation) (it .scope) (it .runs) .reached in
-    let one : it .operation ≡ op = known-one (sym (it .known) ∙ known) in
-    sym (reached-bit st op p low) ∙ ap (λ (o : Operation). bitOf (reachedOf st o) p) (sym one) ∙ ap (λ (m : ℕ). bitOf m p) (sym mask) ∙ hit
-  where
-    operationIn : Operation → Decoded → Operation
-    operationIn o (Known x) = x
-    operationIn o Unknown = o
+    sym (work-reached st word xt xt2 w op p e known low) ∙ going w (entryAt base tag) (sym (drop-entry w base tag out reads) ∙ h) .reached
 
-    known-one : {x y : Operation} → Known x ≡ Known y → x ≡ y
-    known-one {x} h = ap (operationIn x) h
-
--- a slot that no operation can drop in a state keeps its words, whatever is executed
-pub execute-keeps : (st : State) (l : List ℕ) (k a b c : ℕ) → k < slots l → Holds l k a b c →
-    ((word xt xt2 : ℕ) (w : Work) → resolvedOf st word xt xt2 ≡ resolved.Works w → drops w a b c ≡ false) →
-    (word xt xt2 : ℕ) → Holds (executeTable st word xt xt2 l) k a b c
+-- a slot that the operation cannot drop keeps its words
+pub execute-keeps : (st : State) (word xt xt2 : ℕ) (l : List ℕ) (k a b c : ℕ) → k < slots l → Holds l k a b c →
+    ((w : Work) → resolvedOf st word xt xt2 ≡ resolved.Works w → drops w a b c ≡ false) → Holds (executeTable st word xt xt2 l) k a b c
 unfolding executeTable
-execute-keeps st l k a b c n (ha, hb, hc) never word xt xt2 = go (isTable l) (badState st) (resolvedOf st word xt xt2) refl
+execute-keeps st word xt xt2 l k a b c n (ha, hb, hc) never = go (isTable l) (badState st) (resolvedOf st word xt xt2) refl
   where
     go : (s t : Bool) (r : Resolved) → resolvedOf st word xt xt2 ≡ r → Holds (cond s (cond t l (tableBy r l)) l) k a b c
     go true true r e = (ha, hb, hc)
     go true false (resolved.Works w) e =
-        let (x, y, z) = cleared-stays w l k n (slot-same (drops w) ha hb hc ∙ never word xt xt2 w e) in
+        let (x, y, z) = cleared-stays w l k n (slot-same (drops w) ha hb hc ∙ never w e) in
         (x ∙ ha, y ∙ hb, z ∙ hc)
     go true false resolved.Unknown e = (ha, hb, hc)
     go true false resolved.Undefined e = (ha, hb, hc)
@@ -283,26 +290,94 @@ execute-length st word xt xt2 l = go (isTable l) (badState st) (resolvedOf st wo
     go true false resolved.Unpredictable = refl
     go false b r = refl
 
--- no operation drops, in a state, a senseless slot, or an entry whose security state or VMID are not the state's for its regime
-pub never-empty : (st : State) (a b c : ℕ) → isEntry a b ≡ false → (word xt xt2 : ℕ) (w : Work) → resolvedOf st word xt xt2 ≡ resolved.Works w → drops w a b c ≡ false
+-- the three words of slot k are in another table what they are in this one
+abbrev pub Kept : List ℕ → List ℕ → ℕ → Type 0
+Kept l m k = Holds m k (getD l (3 * k) 0) (getD l (3 * k + 1) 0) (getD l (3 * k + 2) 0)
+
+-- "harms no other company": an entry of another company than the operation's keeps its words
+pub execute-apart : (st : State) (word xt xt2 : ℕ) (l : List ℕ) (k : ℕ) → k < slots l →
+    ((w : Work) → resolvedOf st word xt xt2 ≡ resolved.Works w → slotEntry l k .company ≡ w .company → ⊥) → Kept l (executeTable st word xt xt2 l) k
+execute-apart st word xt xt2 l k n apart =
+    execute-keeps st word xt xt2 l k (getD l (3 * k) 0) (getD l (3 * k + 1) 0) (getD l (3 * k + 2) 0) n (refl, refl, refl)
+    (λ (w : Work) (e : resolvedOf st word xt xt2 ≡ resolved.Works w). stays w e (holdsAt (drops w) l k) refl)
+  where
+    stays : (w : Work) → resolvedOf st word xt xt2 ≡ resolved.Works w → (t : Bool) → holdsAt (drops w) l k ≡ t → t ≡ false
+    stays w e true h = absurd (apart w e (dropped-company w (getD l (3 * k) 0) (getD l (3 * k + 1) 0) (getD l (3 * k + 2) 0) h))
+    stays w e false h = refl
+
+-- A slot that no operation drops in a state, whatever the word and the operand.
+abbrev pub Never : State → ℕ → ℕ → ℕ → Type 0
+Never st a b c = (word xt xt2 : ℕ) (w : Work) → resolvedOf st word xt xt2 ≡ resolved.Works w → drops w a b c ≡ false
+
+-- a senseless slot
+pub never-empty : (st : State) (a b c : ℕ) → isEntry a b ≡ false → Never st a b c
 never-empty st a b c h word xt xt2 w e = drop-empty w a b c h
 
-pub never-other : (st : State) (a b c : ℕ) → (Owner st (entryAt a b .company) → ⊥) →
-    (word xt xt2 : ℕ) (w : Work) → resolvedOf st word xt xt2 ≡ resolved.Works w → drops w a b c ≡ false
+-- an entry whose security state or VMID are not the state's for its regime
+pub never-other : (st : State) (a b c : ℕ) → (Owner st (entryAt a b .company) → ⊥) → Never st a b c
 never-other st a b c other word xt xt2 w e = go (drops w a b c) refl
   where
     go : (t : Bool) → drops w a b c ≡ t → t ≡ false
     go true h = absurd (other (dropped-owner st word xt xt2 w a b c e h))
     go false h = refl
 
--- and at EL1 none but of the guest's own stage 1
-pub never-guest : (st : State) (a b c : ℕ) → st .el ≡ 1 → (entryAt a b .company ≡ stage1Of st EL10 → ⊥) →
-    (word xt xt2 : ℕ) (w : Work) → resolvedOf st word xt xt2 ≡ resolved.Works w → drops w a b c ≡ false
+-- at EL1, an entry that is not of the guest's own stage 1
+pub never-guest : (st : State) (a b c : ℕ) → st .el ≡ 1 → (entryAt a b .company ≡ stage1Of st EL10 → ⊥) → Never st a b c
 never-guest st a b c el other word xt xt2 w e = go (drops w a b c) refl
   where
     go : (t : Bool) → drops w a b c ≡ t → t ≡ false
     go true h = absurd (other (dropped-guest st word xt xt2 w a b c el e h))
     go false h = refl
+
+-- below EL3, an entry of EL3
+pub never-el3 : (st : State) (a b c : ℕ) → st .el < 3 → entryAt a b .company .regime ≡ EL3 → Never st a b c
+unfolding workOf
+never-el3 st a b c el third word xt xt2 w e = go (drops w a b c) refl
+  where
+    go : (t : Bool) → drops w a b c ≡ t → t ≡ false
+    go true h =
+        let it = resolves st word xt xt2 w e in
+        let own : it .scope .regime ≡ w .company .regime = ap (λ (v : Work). v .company .regime) (it .work) in
+        let same : entryAt a b .company .regime ≡ w .company .regime = ap (λ (d : Company). d .regime) (dropped-company w a b c h) in
+        absurd (scoped-below st (it .operation) (it .scope) el (it .runs) (own ∙ sym same ∙ third))
+    go false h = refl
+
+-- so each of these keeps its words, whatever is executed
+pub never-kept : (st : State) (l : List ℕ) (k : ℕ) → k < slots l → Never st (getD l (3 * k) 0) (getD l (3 * k + 1) 0) (getD l (3 * k + 2) 0) →
+    (word xt xt2 : ℕ) → Kept l (executeTable st word xt xt2 l) k
+never-kept st l k n never word xt xt2 =
+    execute-keeps st word xt xt2 l k (getD l (3 * k) 0) (getD l (3 * k + 1) 0) (getD l (3 * k + 2) 0) n (refl, refl, refl) (never word xt xt2)
+
+pub guest-kept : (st : State) (l : List ℕ) (k : ℕ) → st .el ≡ 1 → k < slots l → (slotEntry l k .company ≡ stage1Of st EL10 → ⊥) →
+    (word xt xt2 : ℕ) → Kept l (executeTable st word xt xt2 l) k
+guest-kept st l k el n other = never-kept st l k n (never-guest st (getD l (3 * k) 0) (getD l (3 * k + 1) 0) (getD l (3 * k + 2) 0) el other)
+
+pub other-kept : (st : State) (l : List ℕ) (k : ℕ) → k < slots l → (Owner st (slotEntry l k .company) → ⊥) →
+    (word xt xt2 : ℕ) → Kept l (executeTable st word xt xt2 l) k
+other-kept st l k n other = never-kept st l k n (never-other st (getD l (3 * k) 0) (getD l (3 * k + 1) 0) (getD l (3 * k + 2) 0) other)
+
+-- "The call returns how many were dropped.", for every input
+pub execute-count : (st : State) (word xt xt2 : ℕ) (l : List ℕ) → executedDropped (executedOf st word xt xt2 l) ≡ emptied slotReads l (executeTable st word xt xt2 l)
+execute-count st word xt xt2 l = go (executedOf st word xt xt2 l) refl
+  where
+    none : (x : Executed) → executedOf st word xt xt2 l ≡ x → (executedNumber x ≡ 0 → ⊥) → 0 ≡ emptied slotReads l (executeTable st word xt xt2 l)
+    none x e h =
+        sym
+        (ap (emptied slotReads l) (execute-refused st word xt xt2 l (subst (λ (y : Executed). executedNumber y ≡ 0 → ⊥) (sym e) h))
+        ∙ emptied-same slotReads l (zero-empty 0))
+
+    go : (x : Executed) → executedOf st word xt xt2 l ≡ x → executedDropped x ≡ emptied slotReads l (executeTable st word xt xt2 l)
+    go (executed.Dropped n) e =
+        let d = done st word xt xt2 l (ap executedNumber e) in
+        ap executedDropped (sym e) ∙ after st word xt xt2 l d .number
+    go executed.BadShape e = none executed.BadShape e (λ h. let z : _≡_ {A = ℕ} 13 0 = h in omega arith)
+    go executed.BadState e = none executed.BadState e (λ h. let z : _≡_ {A = ℕ} 2 0 = h in omega arith)
+    go executed.Unknown e = none executed.Unknown e (λ h. let z : _≡_ {A = ℕ} 1 0 = h in omega arith)
+    go executed.Undefined e = none executed.Undefined e (λ h. let z : _≡_ {A = ℕ} 3 0 = h in omega arith)
+    go (executed.Trapped v) e = none (executed.Trapped v) e (λ h. let z : _≡_ {A = ℕ} 4 0 = h in omega arith)
+    go executed.NoEffect e = none executed.NoEffect e (λ h. let z : _≡_ {A = ℕ} 5 0 = h in omega arith)
+    go executed.NoGranule e = none executed.NoGranule e (λ h. let z : _≡_ {A = ℕ} 6 0 = h in omega arith)
+    go executed.Unpredictable e = none executed.Unpredictable e (λ h. let z : _≡_ {A = ℕ} 7 0 = h in omega arith)
 
 -- not more slots are dropped than there are
 pub dropped-most : (r : Resolved) (l : List ℕ) → 3 * executedDropped (executedBy r l) ≤ length l

@@ -227,7 +227,7 @@ words-read t xt xt2 h =
     )
 
 -- what reads as fields: those words' own, and TG is not 00
-read-fields : (t : Told) (xt xt2 : ℕ) (o : Operand) → operandOf t xt xt2 ≡ Fields o → (eqb (tgIn xt) 0 ≡ false) × (fieldsIn t xt xt2 ≡ o)
+pub read-fields : (t : Told) (xt xt2 : ℕ) (o : Operand) → operandOf t xt xt2 ≡ Fields o → (eqb (tgIn xt) 0 ≡ false) × (fieldsIn t xt xt2 ≡ o)
 unfolding operandOf
 read-fields t xt xt2 o h = go (eqb (tgIn xt) 0) h
   where

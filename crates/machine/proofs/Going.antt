@@ -8,7 +8,7 @@ use Rattle.laws.proofs.Truth.{and-0, and-1}
 use Rattle.laws.specs.Bits.{bits}
 use Rattle.machine.proofs.Tags.{Sized, company-there, company-tags, entry-layout, vmid-low, written-reads}
 use Rattle.machine.specs.Entry.{isLegal}
-use Rattle.machine.specs.Goes.{isReached, isOwned, isGranuleOf, isMet, isHinted, hasWidth, isLeafOf, isAsidOf, isXsOf, goes, drops}
+use Rattle.machine.specs.Goes.{isReached, isOwned, isGranuleOf, isMet, isHinted, hasWidth, isLeafOf, isAsidOf, isXsOf, goes, keyOf, drops}
 use Rattle.machine.specs.Tag.{layout, companyTag, tagOf, companyAt, entryAt, isEntry}
 use Rattle.machine.specs.declared.entry.Entry.{Entry}
 use Rattle.machine.specs.declared.work.Work.{Work}
@@ -79,10 +79,6 @@ drop-empty w base tag out h = ap (λ (b : Bool). b && goes w (entryAt base tag))
 pub drop-entry : (w : Work) (base tag out : ℕ) → isEntry base tag ≡ true → drops w base tag out ≡ goes w (entryAt base tag)
 unfolding drops
 drop-entry w base tag out h = ap (λ (b : Bool). b && goes w (entryAt base tag)) h
-
--- the part of a tag that says whose an entry is, and its granule
-abbrev pub keyOf : Work → ℕ
-keyOf w = companyTag (w .company) + w .granule * 2 ^ 26
 
 -- a slot whose lower part is not that is not dropped
 pub drop-other : (w : Work) (base tag out : ℕ) → (tag % 2 ^ 28 ≡ keyOf w → ⊥) → w .company .vmid < 2 ^ 16 → drops w base tag out ≡ false

@@ -7,23 +7,25 @@ use native.Mathlib.Omega.{arith}
 use lib.Dec.{eqb, leb}
 use lib.ListN.{length, getD, drop, drop-of-length-le}
 use borrow.Author.Tests.{eqb-true, leb-true, ltb-true, ltb-false, lt-ltb, le-ltb}
-use Rattle.laws.proofs.Clearing.{cleared-length, cleared-both, cleared-none, cleared-emptied}
-use Rattle.laws.proofs.Slots.{next-slot, first-none, first-holds}
+use Rattle.laws.proofs.Clearing.{cleared-length, cleared-slot, emptied-same, cleared-both, cleared-none, cleared-emptied}
+use Rattle.laws.proofs.Slots.{slot-same, next-slot, first-none, first-holds}
 use Rattle.laws.proofs.Truth.{and-0, and-1}
 use Rattle.laws.specs.Slots.{slots, holdsAt, count, first, some, cleared, emptied}
-use Rattle.machine.proofs.Executing.{Holds, slotReads, execute-good, execute-keeps, execute-length}
+use Rattle.machine.proofs.Executing.{Holds, Kept, Never, slotReads, slotEntry, execute-good, execute-keeps, execute-length, never-guest, never-other}
 use Rattle.machine.proofs.Going.{drop-reads}
 use Rattle.machine.proofs.Tags.{zero-empty}
+use Rattle.machine.proofs.Works.{Owner}
 use Rattle.machine.specs.Answer.{executedNumber, executedDropped, ranNumber, ranStep, ranDropped}
 use Rattle.machine.specs.Execute.{resolvedOf, executedBy, tableBy, executedOf, executeTable, isList, isWork, refuses, stepsTable, stepsDropped, ranOf, runTable}
 use Rattle.machine.specs.Goes.{drops}
 use Rattle.machine.specs.State.{badState}
-use Rattle.machine.specs.Table.{hasShape, isTable}
+use Rattle.machine.specs.Table.{hasShape, isTable, stage1Of}
 use Rattle.machine.specs.Tag.{isEntry}
 use Rattle.machine.specs.declared.processor.State.{State}
+use Rattle.machine.specs.declared.scope.Regime.the-variants.{EL10}
+use Rattle.machine.specs.declared.work.Ran.{Ran}
 use Rattle.machine.specs.declared.work.Ran.the-variants.{Dropped, BadShape, BadState, Refused}
 use Rattle.machine.specs.declared.work.Resolved.{Resolved}
-use Rattle.machine.specs.declared.work.Work.{Work}
 use Rattle.machine.specs.declared.work.Resolved.the-variants as resolved
 
 -- a list's words are three to a step, and at most 48
@@ -171,28 +173,33 @@ running-end st steps old l i n h s =
     (omega (arith, zero, number), sym same ∙ done)
 
 -- a slot that no operation can drop in a state keeps its words under every list
-pub steps-keep : (st : State) (k a b c : ℕ) →
-    ((word xt xt2 : ℕ) (w : Work) → resolvedOf st word xt xt2 ≡ resolved.Works w → drops w a b c ≡ false) →
-    (steps l : List ℕ) → k < slots l → Holds l k a b c → Holds (stepsTable st steps l) k a b c
+pub steps-keep : (st : State) (k a b c : ℕ) → Never st a b c → (steps l : List ℕ) → k < slots l → Holds l k a b c → Holds (stepsTable st steps l) k a b c
 unfolding stepsTable
 steps-keep st k a b c never [] l n h = h
 steps-keep st k a b c never (x ∷ []) l n h = h
 steps-keep st k a b c never (x ∷ y ∷ []) l n h = h
 steps-keep st k a b c never (x ∷ y ∷ z ∷ steps) l n h =
     let long = execute-length st x y z l in
-    steps-keep st k a b c never steps (executeTable st x y z l) (omega (arith, long)) (execute-keeps st l k a b c n h never x y z)
+    steps-keep st k a b c never steps (executeTable st x y z l) (omega (arith, long)) (execute-keeps st x y z l k a b c n h (never x y z))
 
-pub run-keeps : (st : State) (k a b c : ℕ) →
-    ((word xt xt2 : ℕ) (w : Work) → resolvedOf st word xt xt2 ≡ resolved.Works w → drops w a b c ≡ false) →
-    (steps l : List ℕ) → k < slots l → Holds l k a b c → Holds (runTable st steps l) k a b c
+pub run-keeps : (st : State) (l : List ℕ) (k : ℕ) → k < slots l → Never st (getD l (3 * k) 0) (getD l (3 * k + 1) 0) (getD l (3 * k + 2) 0) →
+    (steps : List ℕ) → Kept l (runTable st steps l) k
 unfolding runTable
-run-keeps st k a b c never steps l n h = go (isTable l && isList steps) (badState st) (some (refuses st) steps)
+run-keeps st l k n never steps = go (isTable l && isList steps) (badState st) (some (refuses st) steps)
   where
-    go : (p q r : Bool) → Holds (cond p (cond q l (cond r l (stepsTable st steps l))) l) k a b c
-    go true true r = h
-    go true false true = h
-    go true false false = steps-keep st k a b c never steps l n h
-    go false q r = h
+    go : (p q r : Bool) → Kept l (cond p (cond q l (cond r l (stepsTable st steps l))) l) k
+    go true true r = (refl, refl, refl)
+    go true false true = (refl, refl, refl)
+    go true false false = steps-keep st k (getD l (3 * k) 0) (getD l (3 * k + 1) 0) (getD l (3 * k + 2) 0) never steps l n (refl, refl, refl)
+    go false q r = (refl, refl, refl)
+
+-- another guest's at EL1, and an entry of another security state or VMID, whatever the list
+pub run-guest-kept : (st : State) (l : List ℕ) (k : ℕ) → st .el ≡ 1 → k < slots l → (slotEntry l k .company ≡ stage1Of st EL10 → ⊥) →
+    (steps : List ℕ) → Kept l (runTable st steps l) k
+run-guest-kept st l k el n other = run-keeps st l k n (never-guest st (getD l (3 * k) 0) (getD l (3 * k + 1) 0) (getD l (3 * k + 2) 0) el other)
+
+pub run-other-kept : (st : State) (l : List ℕ) (k : ℕ) → k < slots l → (Owner st (slotEntry l k .company) → ⊥) → (steps : List ℕ) → Kept l (runTable st steps l) k
+run-other-kept st l k n other = run-keeps st l k n (never-other st (getD l (3 * k) 0) (getD l (3 * k + 1) 0) (getD l (3 * k + 2) 0) other)
 
 -- a list of one step does what executing it does
 pub run-one : (st : State) (word xt xt2 : ℕ) (l : List ℕ) → isTable l ≡ true → badState st ≡ false → refuses st word xt xt2 ≡ false →
@@ -315,3 +322,46 @@ ran-all st steps l h =
       as-long = ap length now ∙ cleared-length (dropsAny st steps) l;
       number = ap ranDropped answer ∙ number ∙ sym few;
     }
+
+-- an entry is gone after a run exactly when some step drops it
+pub run-exactly : (st : State) (steps l : List ℕ) (k : ℕ) → ranNumber (ranOf st steps l) ≡ 0 → k < slots l → holdsAt slotReads l k ≡ true →
+    holdsAt slotReads (runTable st steps l) k ≡ not (holdsAt (dropsAny st steps) l k)
+run-exactly st steps l k h n reads = go (holdsAt (dropsAny st steps) l k) refl
+  where
+    after : (b : Bool) → holdsAt (dropsAny st steps) l k ≡ b →
+        holdsAt slotReads (runTable st steps l) k ≡ slotReads (cond b 0 (getD l (3 * k) 0)) (cond b 0 (getD l (3 * k + 1) 0)) (cond b 0 (getD l (3 * k + 2) 0))
+    after b e =
+        let (x, y, z) = cleared-slot (dropsAny st steps) l k n in
+        ap (λ (m : List ℕ). holdsAt slotReads m k) (ran-all st steps l h .table)
+        ∙ slot-same slotReads (x ∙ ap (λ (t : Bool). cond t 0 (getD l (3 * k) 0)) e) (y ∙ ap (λ (t : Bool). cond t 0 (getD l (3 * k + 1) 0)) e) (z ∙ ap (λ (t : Bool). cond t 0 (getD l (3 * k + 2) 0)) e)
+
+    go : (b : Bool) → holdsAt (dropsAny st steps) l k ≡ b → holdsAt slotReads (runTable st steps l) k ≡ not b
+    go true e = after true e ∙ zero-empty 0
+    go false e = after false e ∙ reads
+
+-- and the sum is the number of slots that changed from an entry to zeros, and the length what it was, for every input
+pub run-count : (st : State) (steps l : List ℕ) → ranDropped (ranOf st steps l) ≡ emptied slotReads l (runTable st steps l)
+run-count st steps l = go (ranOf st steps l) refl
+  where
+    none : (x : Ran) → ranOf st steps l ≡ x → (ranNumber x ≡ 0 → ⊥) → 0 ≡ emptied slotReads l (runTable st steps l)
+    none x e h =
+        sym
+        (ap (emptied slotReads l) (run-refused st steps l (subst (λ (y : Ran). ranNumber y ≡ 0 → ⊥) (sym e) h)) ∙ emptied-same slotReads l (zero-empty 0))
+
+    go : (x : Ran) → ranOf st steps l ≡ x → ranDropped x ≡ emptied slotReads l (runTable st steps l)
+    go (Dropped n) e = ap ranDropped (sym e) ∙ ran-all st steps l (ap ranNumber e) .number
+    go BadShape e = none BadShape e (λ h. let z : _≡_ {A = ℕ} 13 0 = h in omega arith)
+    go BadState e = none BadState e (λ h. let z : _≡_ {A = ℕ} 2 0 = h in omega arith)
+    go (Refused k) e = none (Refused k) e (λ h. let z : _≡_ {A = ℕ} 10 0 = h in omega arith)
+
+pub run-length : (st : State) (steps l : List ℕ) → length (runTable st steps l) ≡ length l
+run-length st steps l = go (ranOf st steps l) refl
+  where
+    kept : (x : Ran) → ranOf st steps l ≡ x → (ranNumber x ≡ 0 → ⊥) → length (runTable st steps l) ≡ length l
+    kept x e h = ap length (run-refused st steps l (subst (λ (y : Ran). ranNumber y ≡ 0 → ⊥) (sym e) h))
+
+    go : (x : Ran) → ranOf st steps l ≡ x → length (runTable st steps l) ≡ length l
+    go (Dropped n) e = ran-all st steps l (ap ranNumber e) .as-long
+    go BadShape e = kept BadShape e (λ h. let z : _≡_ {A = ℕ} 13 0 = h in omega arith)
+    go BadState e = kept BadState e (λ h. let z : _≡_ {A = ℕ} 2 0 = h in omega arith)
+    go (Refused k) e = kept (Refused k) e (λ h. let z : _≡_ {A = ℕ} 10 0 = h in omega arith)

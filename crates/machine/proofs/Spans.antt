@@ -2,7 +2,7 @@
 use Prim.Native.Nat.{ℕ, zero, suc, _+_, _*_, _-_, _/_, _%_, _^_, _<_, _≤_, max}
 use mathlib.Core.Bool.{Bool, true, false, cond, _&&_}
 use mathlib.Core.List.{List, [], _∷_}
-use mathlib.Core.Path.{_≡_, refl, sym, _∙_}
+use mathlib.Core.Path.{_≡_, refl, sym, ap, _∙_}
 use native.Mathlib.Nat.{mod-lt, mul-le-mul, mul-mod-left}
 use native.Mathlib.Omega.{arith}
 use lib.Dec.{leb}
@@ -15,7 +15,7 @@ use Rattle.laws.proofs.Aligned.{ends, inside}
 use Rattle.laws.proofs.Truth.{and-0, and-1}
 use Rattle.laws.specs.Bits.{down}
 use Rattle.machine.specs.Operand.{isGranule, granuleExponent}
-use Rattle.machine.specs.Span.{isLevel, heightOf, exponentAt, exponentOf, hasSpan, inSpan, meetsRange}
+use Rattle.machine.specs.Span.{isLevel, sameLevel, heightOf, exponentAt, exponentOf, hasSpan, inSpan, meetsRange}
 
 -- A level is one of five: what holds at each of them, -1 first, holds at every level.
 abbrev pub AtEach {ℓ} : (ℤ → Type ℓ) → Type ℓ
@@ -43,6 +43,19 @@ height-low (suc (suc (suc (suc n)))) h = absurd (omega arith)
 pub level-low : (n : ℕ) → n ≤ 3 → isLevel (pos n) ≡ true
 unfolding isLevel
 level-low n h = simp (le-leb n 3 h)
+
+-- neither level is below the other exactly if they are one
+pub same-level : (a b : ℤ) → sameLevel a b ≡ true → a ≡ b
+same-level (pos m) (pos n) h =
+    let e : m ≡ n = omega (arith, leb-true m n (and-0 (leb m n) (leb n m) h), leb-true n m (and-1 (leb m n) (leb n m) h)) in ap pos e
+same-level (pos m) (negsuc n) h = absurd (let z : _≡_ {A = ℕ} 0 1 = cc in omega arith)
+same-level (negsuc m) (pos n) h = absurd (let z : _≡_ {A = ℕ} 0 1 = cc in omega arith)
+same-level (negsuc m) (negsuc n) h =
+    let e : m ≡ n = omega (arith, leb-true n m (and-0 (leb n m) (leb m n) h), leb-true m n (and-1 (leb n m) (leb m n) h)) in ap negsuc e
+
+pub level-self : (a : ℤ) → sameLevel a a ≡ true
+level-self (pos m) = simp (le-leb m m (omega arith))
+level-self (negsuc m) = simp (le-leb m m (omega arith))
 
 -- a TTL is a level as it is
 pub ttl-level : (n : ℕ) → n < 4 → toZ w8 n ≡ pos n

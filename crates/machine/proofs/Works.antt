@@ -1,23 +1,27 @@
 -- The work of an operation: what it comes from, what its fields keep, and whose it is.
 use Prim.Native.Nat.{ℕ, zero, suc, _^_, _<_, _≤_}
 use mathlib.Core.Bool.{Bool, true, false, cond, not, _&&_, _||_}
-use mathlib.Core.Path.{_≡_, refl, sym, ap, subst, _∙_}
+use mathlib.Core.Path.{_≡_, refl, sym, ap, ap₂, subst, _∙_}
 use native.Mathlib.Omega.{arith}
 use lib.Dec.{eqb, ltb}
-use borrow.Author.Tests.{eqb-true, eq-eqb}
+use borrow.Author.Tests.{eqb-true, lt-ltb, eq-eqb}
+use Rattle.laws.specs.Bits.{bits}
+use Rattle.laws.specs.Mask.{bitOf}
 use Rattle.machine.proofs.Covered.{read-base, range-some}
-use Rattle.machine.proofs.Fields.{writable, read-writable, read-within, writable-top}
+use Rattle.machine.proofs.Fields.{read-fields, writable, read-writable, read-within, writable-top}
+use Rattle.machine.proofs.Reach.{reached-bit}
 use Rattle.machine.proofs.Tags.{company-same}
-use Rattle.machine.specs.Access.{reachedOf, usesAsid, hasL, scopeOf, accessE1, accessE2, accessStage2, accessE3, accessOf, accessBy, accessNv, isBarred, isTrapped, actsNxs, trapped}
+use Rattle.machine.specs.Access.{reaches, reachedOf, usesAsid, hasL, scopeOf, accessE1, accessE2, accessStage2, accessE3, accessOf, accessBy, accessNv, isBarred, isTrapped, actsNxs, trapped}
 use Rattle.machine.specs.Answer.{accessNumber, rangedNumber}
 use Rattle.machine.specs.Asked.{xtUsed, xt2Used, isTwoRanges, formOf, toldOf, askedOf}
 use Rattle.machine.specs.Entry.{isEL10, isRoot, isStateOf, isCompany}
 use Rattle.machine.specs.Execute.{resolvedRange, resolvedAccess, resolvedWord, resolvedOf, isWork}
 use Rattle.machine.specs.Goes.{workOf}
-use Rattle.machine.specs.Operand.{hasNs, fits, operandOf}
+use Rattle.machine.specs.Operand.{hasNs, nsIn, fits, operandOf}
 use Rattle.machine.specs.Range.{rangeOf, isUnpredictable, rangedBy, rangedOf}
 use Rattle.machine.specs.State.{isSecure, securityOf, securityIn, el2Enabled, e2hOf, tgeOf, vmidIn}
 use Rattle.machine.specs.Table.{stage1Of}
+use Rattle.machine.specs.Tag.{regimeNumber}
 use Rattle.machine.specs.Word.{readOf, familyOf}
 use Rattle.machine.specs.declared.entry.Company.{Company}
 use Rattle.machine.specs.declared.operand.Form.the-variants.{TwoRangesAsid, TwoRanges, OneRange, Stage2Ns, Stage2NoNs}
@@ -128,6 +132,14 @@ resolves st word xt xt2 w = byWord (readOf word) refl
     byWord (decoded.Known op) e h = byAccess op e (accessOf st op) refl h
     byWord decoded.Unknown e h = absurd (none refl h)
 
+-- a word is one operation
+pub known-one : {x y : Operation} → decoded.Known x ≡ decoded.Known y → x ≡ y
+known-one {x} h = ap operationIn h
+  where
+    operationIn : Decoded → Operation
+    operationIn (decoded.Known o) = o
+    operationIn decoded.Unknown = x
+
 -- what the fields of work keep
 pub record Fit (w : Work) : Type 0 where
   pub granule-some : 1 ≤ w .granule
@@ -155,11 +167,25 @@ fit st word xt xt2 w h =
       last = subst (λ (r : Range). r .last < 2 ^ 64) (a .range) (some .1);
     })
 
--- whose an operation that runs is: the security state and the VMID are those of the state for its regime, and "Stage 2 is EL1&0."
-pub record Scoped (st : State) (op : Operation) (s : Scope) : Type 0 where
+-- the regime and the stage that the names of a family act on, where they run
+abbrev pub regimeOf : Family → State → Regime
+regimeOf E1 st = cond (eqb (st .el) 1) EL10 (cond (e2hOf st && tgeOf st) EL20 EL10)
+regimeOf E2 st = cond (e2hOf st) EL20 EL2
+regimeOf E3 st = EL3
+regimeOf Stage2 st = EL10
+
+abbrev pub isStage2 : Family → Bool
+isStage2 E1 = false
+isStage2 E2 = false
+isStage2 E3 = false
+isStage2 Stage2 = true
+
+-- whose an operation that runs is: its regime and stage are its family's, its security state and VMID those of the state for the regime
+pub record Scoped (f : Family) (st : State) (op : Operation) (s : Scope) : Type 0 where
+  pub regime : s .regime ≡ regimeOf f st
+  pub stage2 : s .stage2 ≡ isStage2 f
   pub security : s .security ≡ securityIn st (s .regime)
   pub vmid : s .vmid ≡ vmidIn st (s .regime)
-  pub stage : (not (s .stage2) || isEL10 (s .regime)) ≡ true
   -- whom it reaches, whether an ASID applies, and whether its name has L
   pub reached : s .reached ≡ reachedOf st op
   pub asid : s .asid ≡ usesAsid (op .name) (s .regime)
@@ -171,54 +197,88 @@ scopeIn s (access.Trapped v) = s
 scopeIn s access.NoEffect = s
 scopeIn s (access.Runs t) = t
 
-runs-scoped : (st : State) (op : Operation) (s : Scope) (g : Regime) (stage2 nxs : Bool) → (not stage2 || isEL10 g) ≡ true →
-    access.Runs (scopeOf st op g stage2 nxs) ≡ access.Runs s → Scoped st op s
+runs-scoped : (f : Family) (st : State) (op : Operation) (s : Scope) (g : Regime) (stage2 nxs : Bool) → g ≡ regimeOf f st → stage2 ≡ isStage2 f →
+    access.Runs (scopeOf st op g stage2 nxs) ≡ access.Runs s → Scoped f st op s
 unfolding scopeOf
-runs-scoped st op s g stage2 nxs e h = subst (Scoped st op) (ap (scopeIn s) h) (record { security = refl; vmid = refl; stage = e; reached = refl; asid = refl; last = refl })
+runs-scoped f st op s g stage2 nxs e i h =
+    subst (Scoped f st op) (ap (scopeIn s) h)
+    (record { regime = e; stage2 = i; security = refl; vmid = refl; reached = refl; asid = refl; last = refl })
 
 refused : {x : Access} {n : ℕ} {s : Scope} {A : Type 0} → accessNumber x ≡ suc n → x ≡ access.Runs s → A
 refused {x} {n} e h = absurd (let z : suc n ≡ 0 = sym e ∙ ap accessNumber h in omega arith)
 
-pub scoped : (st : State) (op : Operation) (s : Scope) → accessOf st op ≡ access.Runs s → Scoped st op s
+pub scoped : (st : State) (op : Operation) (s : Scope) → accessOf st op ≡ access.Runs s → Scoped (familyOf (op .name)) st op s
 unfolding accessOf accessE1 accessE2 accessStage2 accessE3
 scoped st op s = barred (isBarred st op)
   where
-    byE1 : (a b c : Bool) →
-        cond a (cond b (trapped op) (access.Runs (scopeOf st op EL10 false (actsNxs st op)))) (access.Runs (scopeOf st op (cond c EL20 EL10) false (op .nxs)))
+    byE1 : (a : Bool) → eqb (st .el) 1 ≡ a → (b : Bool) →
+        cond a (cond b (trapped op) (access.Runs (scopeOf st op EL10 false (actsNxs st op))))
+        (access.Runs (scopeOf st op (cond (e2hOf st && tgeOf st) EL20 EL10) false (op .nxs)))
         ≡ access.Runs s →
-        Scoped st op s
-    byE1 true true c h = refused refl h
-    byE1 true false c h = runs-scoped st op s EL10 false (actsNxs st op) refl h
-    byE1 false b c h = runs-scoped st op s (cond c EL20 EL10) false (op .nxs) refl h
+        Scoped E1 st op s
+    byE1 true e true h = refused refl h
+    byE1 true e false h = runs-scoped E1 st op s EL10 false (actsNxs st op) (simp e) refl h
+    byE1 false e b h = runs-scoped E1 st op s (cond (e2hOf st && tgeOf st) EL20 EL10) false (op .nxs) (simp e) refl h
 
-    byNv : (a : Bool) → cond a (trapped op) access.Undefined ≡ access.Runs s → Scoped st op s
-    byNv true h = refused refl h
-    byNv false h = refused refl h
+    byNv : (f : Family) (a : Bool) → cond a (trapped op) access.Undefined ≡ access.Runs s → Scoped f st op s
+    byNv f true h = refused refl h
+    byNv f false h = refused refl h
 
-    byE2 : (a b c : Bool) → cond a (accessNv st op) (cond b (access.Runs (scopeOf st op (cond c EL20 EL2) false (op .nxs))) access.Undefined) ≡ access.Runs s →
-        Scoped st op s
-    byE2 true b c h = byNv (el2Enabled st && st .hcr .nv) h
-    byE2 false true c h = runs-scoped st op s (cond c EL20 EL2) false (op .nxs) refl h
-    byE2 false false c h = refused refl h
+    byE2 : (a b : Bool) → cond a (accessNv st op) (cond b (access.Runs (scopeOf st op (cond (e2hOf st) EL20 EL2) false (op .nxs))) access.Undefined) ≡ access.Runs s →
+        Scoped E2 st op s
+    byE2 true b h = byNv E2 (el2Enabled st && st .hcr .nv) h
+    byE2 false true h = runs-scoped E2 st op s (cond (e2hOf st) EL20 EL2) false (op .nxs) refl refl h
+    byE2 false false h = refused refl h
 
-    byStage2 : (a b : Bool) → cond a (accessNv st op) (cond b (access.Runs (scopeOf st op EL10 true (op .nxs))) access.NoEffect) ≡ access.Runs s → Scoped st op s
-    byStage2 true b h = byNv (el2Enabled st && st .hcr .nv) h
-    byStage2 false true h = runs-scoped st op s EL10 true (op .nxs) refl h
+    byStage2 : (a b : Bool) → cond a (accessNv st op) (cond b (access.Runs (scopeOf st op EL10 true (op .nxs))) access.NoEffect) ≡ access.Runs s →
+        Scoped Stage2 st op s
+    byStage2 true b h = byNv Stage2 (el2Enabled st && st .hcr .nv) h
+    byStage2 false true h = runs-scoped Stage2 st op s EL10 true (op .nxs) refl refl h
     byStage2 false false h = refused refl h
 
-    byE3 : (a : Bool) → cond a access.Undefined (access.Runs (scopeOf st op EL3 false (op .nxs))) ≡ access.Runs s → Scoped st op s
+    byE3 : (a : Bool) → cond a access.Undefined (access.Runs (scopeOf st op EL3 false (op .nxs))) ≡ access.Runs s → Scoped E3 st op s
     byE3 true h = refused refl h
-    byE3 false h = runs-scoped st op s EL3 false (op .nxs) refl h
+    byE3 false h = runs-scoped E3 st op s EL3 false (op .nxs) refl refl h
 
-    byFamily : (f : Family) → accessBy f st op ≡ access.Runs s → Scoped st op s
-    byFamily E1 h = byE1 (eqb (st .el) 1) (isTrapped st op) (e2hOf st && tgeOf st) h
-    byFamily E2 h = byE2 (eqb (st .el) 1) (el2Enabled st) (e2hOf st) h
+    byFamily : (f : Family) → accessBy f st op ≡ access.Runs s → Scoped f st op s
+    byFamily E1 h = byE1 (eqb (st .el) 1) refl (isTrapped st op) h
+    byFamily E2 h = byE2 (eqb (st .el) 1) (el2Enabled st) h
     byFamily E3 h = byE3 (ltb (st .el) 3) h
     byFamily Stage2 h = byStage2 (eqb (st .el) 1) (el2Enabled st) h
 
-    barred : (a : Bool) → cond a access.Undefined (accessBy (familyOf (op .name)) st op) ≡ access.Runs s → Scoped st op s
+    barred : (a : Bool) → cond a access.Undefined (accessBy (familyOf (op .name)) st op) ≡ access.Runs s → Scoped (familyOf (op .name)) st op s
     barred true h = refused refl h
     barred false h = byFamily (familyOf (op .name)) h
+
+-- below EL3 no E3 name runs
+pub scoped-below : (st : State) (op : Operation) (s : Scope) → st .el < 3 → accessOf st op ≡ access.Runs s → s .regime ≡ EL3 → ⊥
+unfolding accessOf accessE3
+scoped-below st op s el h e = barred (isBarred st op) h
+  where
+    third : (f : Family) → EL3 ≡ regimeOf f st → f ≡ E3
+    third E1 i = absurd (first (eqb (st .el) 1) (e2hOf st && tgeOf st) i)
+      where
+        first : (a b : Bool) → EL3 ≡ cond a EL10 (cond b EL20 EL10) → ⊥
+        first true b i = let z : _≡_ {A = ℕ} 3 0 = ap regimeNumber i in omega arith
+        first false true i = let z : _≡_ {A = ℕ} 3 1 = ap regimeNumber i in omega arith
+        first false false i = let z : _≡_ {A = ℕ} 3 0 = ap regimeNumber i in omega arith
+    third E2 i = absurd (second (e2hOf st) i)
+      where
+        second : (a : Bool) → EL3 ≡ cond a EL20 EL2 → ⊥
+        second true i = let z : _≡_ {A = ℕ} 3 1 = ap regimeNumber i in omega arith
+        second false i = let z : _≡_ {A = ℕ} 3 2 = ap regimeNumber i in omega arith
+    third E3 i = refl
+    third Stage2 i = absurd (let z : _≡_ {A = ℕ} 3 0 = ap regimeNumber i in omega arith)
+
+    is : familyOf (op .name) ≡ E3
+    is = third (familyOf (op .name)) (sym e ∙ scoped st op s h .regime)
+
+    low : ltb (st .el) 3 ≡ true
+    low = lt-ltb (st .el) 3 el
+
+    barred : (a : Bool) → cond a access.Undefined (accessBy (familyOf (op .name)) st op) ≡ access.Runs s → ⊥
+    barred true h = refused refl h
+    barred false h = refused {x = access.Undefined} refl (sym (ap (λ f. accessBy f st op) is ∙ rw low refl) ∙ h)
 
 -- a guest's: at EL1 only stage 1 of EL1&0 is acted on
 pub scoped-guest : (st : State) (op : Operation) (s : Scope) → st .el ≡ 1 → accessOf st op ≡ access.Runs s → (s .regime ≡ EL10) × (s .stage2 ≡ false)
@@ -309,13 +369,19 @@ owner st word xt xt2 w h =
     let space = space-of st op s o (writable (toldOf st op s) o (read-writable (toldOf st op s) _ _ o (a .read)) .ns) in
     let right : isStateOf (s .regime) (s .security) ≡ true = ap (isStateOf (s .regime)) (k .security) ∙ state-of st (s .regime) in
     subst (λ (v : Work). Owner st (v .company)) (it .work)
-    (record { security = k .security; vmid = k .vmid; company = simp (guest (s .regime) (s .vmid) (k .vmid), space, k .stage, right) })
+    (record { security = k .security; vmid = k .vmid; company = simp (guest (s .regime) (s .vmid) (k .vmid), space, staged (familyOf (op .name)) (s .stage2) (s .regime) (k .stage2) (k .regime), right) })
   where
     guest : (g : Regime) (v : ℕ) → v ≡ vmidIn st g → (isEL10 g || eqb v 0) ≡ true
     guest EL10 v e = refl
     guest EL20 v e = eq-eqb v 0 e
     guest EL2 v e = eq-eqb v 0 e
     guest EL3 v e = eq-eqb v 0 e
+
+    staged : (f : Family) (b : Bool) (g : Regime) → b ≡ isStage2 f → g ≡ regimeOf f st → (not b || isEL10 g) ≡ true
+    staged E1 b g e i = ap (λ (x : Bool). not x || isEL10 g) e
+    staged E2 b g e i = ap (λ (x : Bool). not x || isEL10 g) e
+    staged E3 b g e i = ap (λ (x : Bool). not x || isEL10 g) e
+    staged Stage2 b g e i = ap₂ (λ (x : Bool) (y : Regime). not x || isEL10 y) e i
 
 -- a guest's work, at EL1, is stage 1 of EL1&0 with the state's own VMID and security state, whatever the word and the operand
 pub owner-guest : (st : State) (word xt xt2 : ℕ) (w : Work) → st .el ≡ 1 → resolvedOf st word xt xt2 ≡ resolved.Works w → w .company ≡ stage1Of st EL10
@@ -337,3 +403,51 @@ owner-guest st word xt xt2 w el h =
     none true true false e h = sym h
     none true false c e h = sym h
     none false b c e h = refl
+
+-- the company of the work of a word: regime and stage by the family of its name, and "for RIPAS2 bit 63 is NS" in the Secure state
+pub work-company : (st : State) (word xt xt2 : ℕ) (w : Work) (op : Operation) → resolvedOf st word xt xt2 ≡ resolved.Works w → readOf word ≡ decoded.Known op →
+    (w .company .regime ≡ regimeOf (familyOf (op .name)) st)
+    × (w .company .stage2 ≡ isStage2 (familyOf (op .name)))
+    × (w .company .ns ≡ (w .company .stage2 && isSecure (w .company .security) && eqb (bits 63 63 (xtUsed op xt)) 1))
+unfolding workOf toldOf formOf
+work-company st word xt xt2 w op h known =
+    let it = resolves st word xt xt2 w h in
+    let s = it .scope in
+    let o = it .operand in
+    let one : it .operation ≡ op = known-one (sym (it .known) ∙ known) in
+    let a = asks st (it .operation) s xt xt2 o (it .range) (it .asked) in
+    let k = scoped st (it .operation) s (it .runs) in
+    let read = read-fields (toldOf st (it .operation) s) (xtUsed (it .operation) xt) (xt2Used (it .operation) xt2) o (a .read) .1 in
+    let ns : o .ns ≡ nsIn (formOf s) (xtUsed (it .operation) xt) = ap (λ (p : Operand). p .ns) (sym read) in
+    let space = ap (λ (n : ℕ). eqb n 1) ns ∙ form (s .stage2) (isSecure (s .security)) (isTwoRanges (s .regime)) (s .asid) (bits 63 63 (xtUsed (it .operation) xt)) in
+    subst
+    (λ (v : Work).
+    (v .company .regime ≡ regimeOf (familyOf (op .name)) st)
+    × (v .company .stage2 ≡ isStage2 (familyOf (op .name)))
+    × (v .company .ns ≡ (v .company .stage2 && isSecure (v .company .security) && eqb (bits 63 63 (xtUsed op xt)) 1)))
+    (it .work)
+    (subst
+    (λ (x : Operation).
+    (s .regime ≡ regimeOf (familyOf (x .name)) st)
+    × (s .stage2 ≡ isStage2 (familyOf (x .name)))
+    × (eqb (o .ns) 1 ≡ (s .stage2 && isSecure (s .security) && eqb (bits 63 63 (xtUsed x xt)) 1)))
+    one
+    (k .regime, k .stage2, space))
+  where
+    form : (a b c d : Bool) (n : ℕ) →
+        eqb (cond (hasNs (cond a (cond b Stage2Ns Stage2NoNs) (cond c (cond d TwoRangesAsid TwoRanges) OneRange))) n 0) 1 ≡ (a && b && eqb n 1)
+    form true true c d n = refl
+    form true false c d n = refl
+    form false b true true n = refl
+    form false b true false n = refl
+    form false b false d n = refl
+
+-- "its processor is below the count and reached"
+pub work-reached : (st : State) (word xt xt2 : ℕ) (w : Work) (op : Operation) (p : ℕ) → resolvedOf st word xt xt2 ≡ resolved.Works w → readOf word ≡ decoded.Known op →
+    p < 8 → bitOf (w .reached) p ≡ reaches st op p
+unfolding workOf
+work-reached st word xt xt2 w op p h known low =
+    let it = resolves st word xt xt2 w h in
+    let one : it .operation ≡ op = known-one (sym (it .known) ∙ known) in
+    let mask : w .reached ≡ reachedOf st (it .operation) = ap (λ (v : Work). v .reached) (sym (it .work)) ∙ scoped st (it .operation) (it .scope) (it .runs) .reached in
+    ap (λ (m : ℕ). bitOf m p) mask ∙ ap (λ (o : Operation). bitOf (reachedOf st o) p) one ∙ reached-bit st op p low

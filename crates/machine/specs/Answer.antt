@@ -17,6 +17,8 @@ use Rattle.machine.specs.declared.work.Executed.{Executed}
 use Rattle.machine.specs.declared.work.Executed.the-variants as executed
 use Rattle.machine.specs.declared.work.Ran.{Ran}
 use Rattle.machine.specs.declared.work.Ran.the-variants as ran
+use Rattle.machine.specs.declared.work.Resolved.{Resolved}
+use Rattle.machine.specs.declared.work.Resolved.the-variants as resolved
 
 -- "3 UNDEFINED", "4 trapped to EL2", "5 ends without effect"; 0 says only that no access rule refuses
 abbrev pub accessNumber : Access → ℕ
@@ -100,6 +102,16 @@ lookedUpExamined (looked.Found m) = m .examined
 lookedUpExamined looked.BadShape = 0
 lookedUpExamined looked.BadState = 0
 lookedUpExamined (looked.NotFound n) = n
+
+-- "1, 3 to 5 by the access rules ..., 6, 7": what a word and its registers come to, after the checks of shape and state
+abbrev pub resolvedNumber : Resolved → ℕ
+resolvedNumber (resolved.Works w) = 0
+resolvedNumber resolved.Unknown = 1
+resolvedNumber resolved.Undefined = 3
+resolvedNumber (resolved.Trapped v) = 4
+resolvedNumber resolved.NoEffect = 5
+resolvedNumber resolved.NoGranule = 6
+resolvedNumber resolved.Unpredictable = 7
 
 -- "Execute: 13, 2, 1, 3 to 5 by the access rules ..., 6, 7.", the number of a trap, and how many slots were dropped
 abbrev pub executedNumber : Executed → ℕ

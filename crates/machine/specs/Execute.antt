@@ -81,7 +81,7 @@ executeTable st word xt xt2 l = cond (isTable l) (cond (badState st) l (tableBy 
 abbrev pub isList : List ℕ → Bool
 isList steps = hasShape 48 (length steps)
 
--- "a list's step doesn't answer 0"
+-- there is work
 abbrev pub isWork : Resolved → Bool
 isWork (resolved.Works w) = true
 isWork resolved.Unknown = false
@@ -91,6 +91,7 @@ isWork resolved.NoEffect = false
 isWork resolved.NoGranule = false
 isWork resolved.Unpredictable = false
 
+-- "a list's step doesn't answer 0"
 abbrev pub refuses : State → ℕ → ℕ → ℕ → Bool
 refuses st word xt xt2 = not (isWork (resolvedOf st word xt xt2))
 

@@ -1,9 +1,9 @@
 -- 01, "Entries": "An entry goes exactly when all hold", part by part.
-use Prim.Native.Nat.{ℕ}
+use Prim.Native.Nat.{ℕ, _+_, _*_, _^_}
 use mathlib.Core.Bool.{Bool, cond, not, _&&_, _||_}
 use lib.Dec.{eqb}
 use lib.IntN.{pos}
-use lib.Signed.{leZ, ltZ}
+use lib.Signed.{ltZ}
 use Rattle.laws.specs.Mask.{bitOf}
 use Rattle.machine.specs.declared.entry.Company.{Company}
 use Rattle.machine.specs.declared.entry.Entry.{Entry}
@@ -13,9 +13,9 @@ use Rattle.machine.specs.declared.operation.Operation.{Operation}
 use Rattle.machine.specs.declared.processor.State.{State}
 use Rattle.machine.specs.declared.scope.Scope.{Scope}
 use Rattle.machine.specs.declared.work.Work.{Work}
-use Rattle.machine.specs.Span.{meetsRange}
+use Rattle.machine.specs.Span.{sameLevel, meetsRange}
 use Rattle.machine.specs.Entry.{spanOf}
-use Rattle.machine.specs.Tag.{entryAt, isEntry}
+use Rattle.machine.specs.Tag.{companyTag, entryAt, isEntry}
 use Rattle.machine.specs.Table.{sameCompany}
 
 -- the company that an operation acts on: "for RIPAS2 bit 63 is NS"
@@ -40,7 +40,7 @@ workOf st op s o r = record {
   nxs = s .nxs;
 }
 
--- "its processor is below the count and reached (own number; same inner; same outer domain)"
+-- "its processor is below the count and reached (own number; same inner; same outer domain)", by the bits of `reachedOf`
 abbrev pub isReached : Work → Entry → Bool
 isReached w e = bitOf (w .reached) (e .processor)
 
@@ -48,10 +48,11 @@ isReached w e = bitOf (w .reached) (e .processor)
 abbrev pub isOwned : Work → Entry → Bool
 isOwned w e = sameCompany (e .company) (w .company)
 
--- "granule is TG; its span meets the range"
+-- "granule is TG"
 abbrev pub isGranuleOf : Work → Entry → Bool
 isGranuleOf w e = eqb (e .granule) (w .granule)
 
+-- "its span meets the range"
 abbrev pub isMet : Work → Entry → Bool
 isMet w e = meetsRange (e .base) (spanOf e) (w .first) (w .last)
 
@@ -61,7 +62,7 @@ isWidthOf w e = cond (w .wide) (e .wide) (not (e .wide))
 
 -- "it is non-leaf above the TTL level or a leaf at it"
 abbrev pub isAtHint : Work → Entry → Bool
-isAtHint w e = cond (e .leaf) (leZ (e .level) (w .level) && leZ (w .level) (e .level)) (ltZ (e .level) (w .level))
+isAtHint w e = cond (e .leaf) (sameLevel (e .level) (w .level)) (ltZ (e .level) (w .level))
 
 -- "TTL 00, or its width is the operation's and it is ..."
 abbrev pub isHinted : Work → Entry → Bool
@@ -95,6 +96,10 @@ goes w e =
     && isLeafOf w e
     && isAsidOf w e
     && isXsOf w e
+
+-- the lower part of the tag of every entry of the company and the granule
+abbrev pub keyOf : Work → ℕ
+keyOf w = companyTag (w .company) + w .granule * 2 ^ 26
 
 -- a slot is dropped if it reads as an entry that goes; the output word has no say
 unfoldable pub drops : Work → ℕ → ℕ → ℕ → Bool

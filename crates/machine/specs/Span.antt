@@ -10,6 +10,10 @@ use Rattle.machine.specs.Operand.{isGranule, granuleExponent}
 unfoldable pub isLevel : ℤ → Bool
 isLevel l = leZ (negsuc 0) l && leZ l (pos 3)
 
+-- two levels are one
+abbrev pub sameLevel : ℤ → ℤ → Bool
+sameLevel a b = leZ a b && leZ b a
+
 -- 3 minus the level, where it is a level
 unfoldable pub heightOf : ℤ → ℕ
 heightOf l = natAbs (pos 3 -ℤ l)

@@ -1,4 +1,4 @@
-// Tables of slots: their shape, insert and look up.
+// Tables of slots: the shape of tables and lists, insert and look up.
 mod insert;
 mod lookup;
 mod shape;

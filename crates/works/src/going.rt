@@ -47,7 +47,7 @@ fn is_asid_of(work: Work, entry: Entry) -> bool
     !work.one | (entry.asid as u64 == work.asid) | (entry.leaf & entry.global)
 }
 
-// An entry of the company and the granule that an operation acts on goes.
+// Whether an entry goes that is of the operation's company and granule: a caller has compared these in one number.
 pub fn goes(work: Work, entry: Entry) -> bool
     requires { ⌜ (isLegal entry ≡ true) × (isOwned work entry ≡ true) × (isGranuleOf work entry ≡ true) ⌝ }
     ensures { λ r. ⌜ r ≡ goes work entry ⌝ }
