@@ -3,6 +3,7 @@ mod company;
 mod legal;
 mod number;
 mod slot;
+mod span;
 mod tag;
 
 pub use company::has_asids;
@@ -10,5 +11,6 @@ pub use company::is_company;
 pub use legal::is_legal;
 pub use slot::entry_at;
 pub use slot::is_entry;
+pub use span::span_of;
 pub use tag::company_tag;
 pub use tag::tag_of;

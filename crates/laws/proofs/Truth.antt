@@ -12,6 +12,11 @@ pub and-1 : (a b : Bool) → (a && b) ≡ true → b ≡ true
 and-1 true b h = h
 and-1 false b h = absurd (let z : _≡_ {A = ℕ} 0 1 = cc in omega arith)
 
+-- what cannot hold does not
+pub not-so : (b : Bool) → (b ≡ true → ⊥) → b ≡ false
+not-so true n = absurd (n refl)
+not-so false n = refl
+
 pub or-0 : (a b : Bool) → (a || b) ≡ false → a ≡ false
 or-0 true b h = h
 or-0 false b h = refl

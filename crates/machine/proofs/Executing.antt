@@ -7,6 +7,7 @@ use native.Mathlib.Omega.{arith}
 use lib.ListN.{length, getD}
 use Rattle.laws.proofs.Clearing.{cleared-length, cleared-slot, cleared-word, cleared-emptied, emptied-same, count-most}
 use Rattle.laws.proofs.Slots.{slot-same}
+use Rattle.laws.proofs.Truth.{not-so}
 use Rattle.laws.specs.Slots.{slots, holdsAt, count, cleared, emptied}
 use Rattle.machine.proofs.Going.{going, drop-reads, drop-empty, drop-entry}
 use Rattle.machine.proofs.Inserting.{table-shape}
@@ -299,11 +300,9 @@ pub execute-apart : (st : State) (word xt xt2 : ℕ) (l : List ℕ) (k : ℕ) �
     ((w : Work) → resolvedOf st word xt xt2 ≡ resolved.Works w → slotEntry l k .company ≡ w .company → ⊥) → Kept l (executeTable st word xt xt2 l) k
 execute-apart st word xt xt2 l k n apart =
     execute-keeps st word xt xt2 l k (getD l (3 * k) 0) (getD l (3 * k + 1) 0) (getD l (3 * k + 2) 0) n (refl, refl, refl)
-    (λ (w : Work) (e : resolvedOf st word xt xt2 ≡ resolved.Works w). stays w e (holdsAt (drops w) l k) refl)
-  where
-    stays : (w : Work) → resolvedOf st word xt xt2 ≡ resolved.Works w → (t : Bool) → holdsAt (drops w) l k ≡ t → t ≡ false
-    stays w e true h = absurd (apart w e (dropped-company w (getD l (3 * k) 0) (getD l (3 * k + 1) 0) (getD l (3 * k + 2) 0) h))
-    stays w e false h = refl
+    (λ (w : Work) (e : resolvedOf st word xt xt2 ≡ resolved.Works w).
+    not-so (holdsAt (drops w) l k)
+    (λ (h : holdsAt (drops w) l k ≡ true). apart w e (dropped-company w (getD l (3 * k) 0) (getD l (3 * k + 1) 0) (getD l (3 * k + 2) 0) h)))
 
 -- A slot that no operation drops in a state, whatever the word and the operand.
 abbrev pub Never : State → ℕ → ℕ → ℕ → Type 0
@@ -315,32 +314,24 @@ never-empty st a b c h word xt xt2 w e = drop-empty w a b c h
 
 -- an entry whose security state or VMID are not the state's for its regime
 pub never-other : (st : State) (a b c : ℕ) → (Owner st (entryAt a b .company) → ⊥) → Never st a b c
-never-other st a b c other word xt xt2 w e = go (drops w a b c) refl
-  where
-    go : (t : Bool) → drops w a b c ≡ t → t ≡ false
-    go true h = absurd (other (dropped-owner st word xt xt2 w a b c e h))
-    go false h = refl
+never-other st a b c other word xt xt2 w e =
+    not-so (drops w a b c) (λ (h : drops w a b c ≡ true). other (dropped-owner st word xt xt2 w a b c e h))
 
 -- at EL1, an entry that is not of the guest's own stage 1
 pub never-guest : (st : State) (a b c : ℕ) → st .el ≡ 1 → (entryAt a b .company ≡ stage1Of st EL10 → ⊥) → Never st a b c
-never-guest st a b c el other word xt xt2 w e = go (drops w a b c) refl
-  where
-    go : (t : Bool) → drops w a b c ≡ t → t ≡ false
-    go true h = absurd (other (dropped-guest st word xt xt2 w a b c el e h))
-    go false h = refl
+never-guest st a b c el other word xt xt2 w e =
+    not-so (drops w a b c) (λ (h : drops w a b c ≡ true). other (dropped-guest st word xt xt2 w a b c el e h))
 
 -- below EL3, an entry of EL3
 pub never-el3 : (st : State) (a b c : ℕ) → st .el < 3 → entryAt a b .company .regime ≡ EL3 → Never st a b c
 unfolding workOf
-never-el3 st a b c el third word xt xt2 w e = go (drops w a b c) refl
-  where
-    go : (t : Bool) → drops w a b c ≡ t → t ≡ false
-    go true h =
-        let it = resolves st word xt xt2 w e in
-        let own : it .scope .regime ≡ w .company .regime = ap (λ (v : Work). v .company .regime) (it .work) in
-        let same : entryAt a b .company .regime ≡ w .company .regime = ap (λ (d : Company). d .regime) (dropped-company w a b c h) in
-        absurd (scoped-below st (it .operation) (it .scope) el (it .runs) (own ∙ sym same ∙ third))
-    go false h = refl
+never-el3 st a b c el third word xt xt2 w e =
+    not-so (drops w a b c)
+    (λ (h : drops w a b c ≡ true).
+    let it = resolves st word xt xt2 w e in
+    let own : it .scope .regime ≡ w .company .regime = ap (λ (v : Work). v .company .regime) (it .work) in
+    let same : entryAt a b .company .regime ≡ w .company .regime = ap (λ (d : Company). d .regime) (dropped-company w a b c h) in
+    scoped-below st (it .operation) (it .scope) el (it .runs) (own ∙ sym same ∙ third))
 
 -- so each of these keeps its words, whatever is executed
 pub never-kept : (st : State) (l : List ℕ) (k : ℕ) → k < slots l → Never st (getD l (3 * k) 0) (getD l (3 * k + 1) 0) (getD l (3 * k + 2) 0) →

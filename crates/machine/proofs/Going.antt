@@ -1,15 +1,15 @@
 -- Which slots an operation drops: what turns a slot away, what one compare of the tag tells, and the parts of "goes" one by one.
-use Prim.Native.Nat.{ℕ, _+_, _*_, _%_, _^_, _<_, _≤_}
+use Prim.Native.Nat.{ℕ, _%_, _^_, _<_, _≤_}
 use mathlib.Core.Bool.{Bool, true, false, _&&_}
 use mathlib.Core.Path.{_≡_, refl, sym, ap, _∙_}
 use native.Mathlib.Omega.{arith}
 use borrow.Author.Tests.{eqb-true, eq-eqb}
-use Rattle.laws.proofs.Truth.{and-0, and-1}
+use Rattle.laws.proofs.Truth.{and-0, and-1, not-so}
 use Rattle.laws.specs.Bits.{bits}
-use Rattle.machine.proofs.Tags.{Sized, company-there, company-tags, entry-layout, vmid-low, written-reads}
+use Rattle.machine.proofs.Tags.{Sized, written-reads, entry-layout, company-at}
 use Rattle.machine.specs.Entry.{isLegal}
 use Rattle.machine.specs.Goes.{isReached, isOwned, isGranuleOf, isMet, isHinted, hasWidth, isLeafOf, isAsidOf, isXsOf, goes, keyOf, drops}
-use Rattle.machine.specs.Tag.{layout, companyTag, tagOf, companyAt, entryAt, isEntry}
+use Rattle.machine.specs.Tag.{companyTag, tagOf, entryAt, isEntry}
 use Rattle.machine.specs.declared.entry.Entry.{Entry}
 use Rattle.machine.specs.declared.work.Work.{Work}
 
@@ -80,32 +80,27 @@ pub drop-entry : (w : Work) (base tag out : ℕ) → isEntry base tag ≡ true �
 unfolding drops
 drop-entry w base tag out h = ap (λ (b : Bool). b && goes w (entryAt base tag)) h
 
--- a slot whose lower part is not that is not dropped
+-- a slot whose lower part is not the key is not dropped
 pub drop-other : (w : Work) (base tag out : ℕ) → (tag % 2 ^ 28 ≡ keyOf w → ⊥) → w .company .vmid < 2 ^ 16 → drops w base tag out ≡ false
 unfolding entryAt
-drop-other w base tag out d v = go (drops w base tag out) refl
-  where
-    go : (b : Bool) → drops w base tag out ≡ b → b ≡ false
-    go true h =
-        let reads = drop-reads w base tag out h in
-        let k = going w (entryAt base tag) (sym (drop-entry w base tag out reads) ∙ h) in
-        let g : bits 27 26 tag ≡ w .granule = eqb-true (bits 27 26 tag) (w .granule) (k .granule) in
-        let c : companyTag (companyAt tag) ≡ companyTag (w .company) =
-        eqb-true (companyTag (companyAt tag)) (companyTag (w .company)) (sym (company-tags (companyAt tag) (w .company) (vmid-low tag) v) ∙ k .owned) in
-        let t : layout + bits 25 4 tag * 2 ^ 4 ≡ companyTag (w .company) = sym (company-there tag) ∙ c in
-        absurd (d (omega (arith, entry-layout base tag reads, g, t)))
-    go false h = refl
+drop-other w base tag out d v =
+    not-so (drops w base tag out)
+    (λ (h : drops w base tag out ≡ true).
+    let reads = drop-reads w base tag out h in
+    let k = going w (entryAt base tag) (sym (drop-entry w base tag out reads) ∙ h) in
+    let g : bits 27 26 tag ≡ w .granule = eqb-true (bits 27 26 tag) (w .granule) (k .granule) in
+    let c : tag % 2 ^ 26 ≡ companyTag (w .company) =
+    eqb-true (tag % 2 ^ 26) (companyTag (w .company)) (sym (company-at (w .company) tag v (entry-layout base tag reads)) ∙ k .owned) in
+    d (omega (arith, g, c)))
 
--- and one whose lower part is that is of the company and the granule
+-- and one whose lower part is the key is of the company and the granule
 pub drop-own : (w : Work) (base tag : ℕ) → isEntry base tag ≡ true → tag % 2 ^ 28 ≡ keyOf w → companyTag (w .company) < 2 ^ 26 → w .company .vmid < 2 ^ 16 →
     w .granule ≤ 3 → (isOwned w (entryAt base tag) ≡ true) × (isGranuleOf w (entryAt base tag) ≡ true)
 unfolding entryAt
 drop-own w base tag reads e low v g =
-    let lay : tag % 2 ^ 4 ≡ layout = entry-layout base tag reads in
-    let c : companyTag (companyAt tag) ≡ companyTag (w .company) = company-there tag ∙ (let x : layout + bits 25 4 tag * 2 ^ 4 ≡ companyTag (w .company) = omega (arith, lay, e, low, g) in x) in (
-      company-tags (companyAt tag) (w .company) (vmid-low tag) v ∙ eq-eqb (companyTag (companyAt tag)) (companyTag (w .company)) c,
-      eq-eqb (bits 27 26 tag) (w .granule) (omega (arith, e, low, g)),
-    )
+    let tg : bits 27 26 tag ≡ w .granule = omega (arith, e, low, g) in
+    let c : tag % 2 ^ 26 ≡ companyTag (w .company) = omega (arith, e, low, g) in
+    (company-at (w .company) tag v (entry-layout base tag reads) ∙ eq-eqb (tag % 2 ^ 26) (companyTag (w .company)) c, eq-eqb (bits 27 26 tag) (w .granule) tg)
 
 -- what is left to test then
 pub goes-rest : (w : Work) (e : Entry) → isOwned w e ≡ true → isGranuleOf w e ≡ true →

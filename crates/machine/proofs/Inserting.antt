@@ -13,17 +13,22 @@ use Rattle.laws.proofs.Truth.{and-0, and-1}
 use Rattle.laws.specs.Slots.{slots, holdsAt, first, some, put}
 use Rattle.machine.specs.Answer.{insertedNumber, insertedSlot}
 use Rattle.machine.specs.Entry.{isLegal}
-use Rattle.machine.specs.Table.{isTable, isEmpty, filled, insertedOf, insertTable}
+use Rattle.machine.specs.Table.{hasShape, isTable, isEmpty, filled, insertedOf, insertTable}
 use Rattle.machine.specs.Tag.{tagOf, entryAt, isEntry}
 use Rattle.machine.proofs.Tags.{Sized, written-reads}
 use Rattle.machine.specs.declared.entry.Entry.{Entry}
 use Rattle.machine.specs.declared.table.Inserted.{Inserted}
 use Rattle.machine.specs.declared.table.Inserted.the-variants.{At, BadShape, Illegal, Full}
 
--- a table's words are three to a slot, and at most 6,144
+-- words in shape are three to a slot or a step, and at most so many
+pub has-shape : (most words : ℕ) → hasShape most words ≡ true → (words % 3 ≡ 0) × (words ≤ most)
+has-shape most words h =
+    let three = eqb (words % 3) 0 in
+    let few = leb words most in
+    (eqb-true (words % 3) 0 (and-0 three few h), leb-true words most (and-1 three few h))
+
 pub table-shape : (l : List ℕ) → isTable l ≡ true → (length l % 3 ≡ 0) × (length l ≤ 6144)
-table-shape l h =
-    (eqb-true (length l % 3) 0 (and-0 (eqb (length l % 3) 0) (leb (length l) 6144) h), leb-true (length l) 6144 (and-1 (eqb (length l % 3) 0) (leb (length l) 6144) h))
+table-shape l h = has-shape 6144 (length l) h
 
 -- "Insert: 13, 8, 9."
 pub insert-13 : (e : Entry) (out : ℕ) (l : List ℕ) → isTable l ≡ false → (insertedOf e l ≡ BadShape) × (insertTable e out l ≡ l)

@@ -4,15 +4,16 @@ use mathlib.Core.Bool.{Bool, true, false, cond, not, _&&_, _||_}
 use mathlib.Core.List.{List, [], _∷_}
 use mathlib.Core.Path.{_≡_, refl, sym, ap, subst, _∙_}
 use native.Mathlib.Omega.{arith}
-use lib.Dec.{eqb, leb}
+use lib.Dec.{eqb}
 use lib.ListN.{length, getD, drop, drop-of-length-le}
-use borrow.Author.Tests.{eqb-true, leb-true, ltb-true, ltb-false, lt-ltb, le-ltb}
+use borrow.Author.Tests.{ltb-true, ltb-false, lt-ltb, le-ltb}
 use Rattle.laws.proofs.Clearing.{cleared-length, cleared-slot, emptied-same, cleared-both, cleared-none, cleared-emptied}
 use Rattle.laws.proofs.Slots.{slot-same, next-slot, first-none, first-holds}
-use Rattle.laws.proofs.Truth.{and-0, and-1}
+use Rattle.laws.proofs.Truth.{not-so}
 use Rattle.laws.specs.Slots.{slots, holdsAt, count, first, some, cleared, emptied}
 use Rattle.machine.proofs.Executing.{Holds, Kept, Never, slotReads, slotEntry, execute-good, execute-keeps, execute-length, never-guest, never-other}
 use Rattle.machine.proofs.Going.{drop-reads}
+use Rattle.machine.proofs.Inserting.{has-shape, table-shape}
 use Rattle.machine.proofs.Tags.{zero-empty}
 use Rattle.machine.proofs.Works.{Owner}
 use Rattle.machine.specs.Answer.{executedNumber, executedDropped, ranNumber, ranStep, ranDropped}
@@ -28,10 +29,8 @@ use Rattle.machine.specs.declared.work.Ran.the-variants.{Dropped, BadSha
 use Rattle.machine.specs.declared.work.Resolved.{Resolved}
 use Rattle.machine.specs.declared.work.Resolved.the-variants as resolved
 
--- a list's words are three to a step, and at most 48
 pub list-shape : (steps : List ℕ) → isList steps ≡ true → (length steps % 3 ≡ 0) × (length steps ≤ 48)
-list-shape l h =
-    (eqb-true (length l % 3) 0 (and-0 (eqb (length l % 3) 0) (leb (length l) 48) h), leb-true (length l) 48 (and-1 (eqb (length l % 3) 0) (leb (length l) 48) h))
+list-shape steps h = has-shape 48 (length steps) h
 
 -- "Run: 13, 2, 10, else all steps in order and the sum of dropped slots."
 pub run-13 : (st : State) (steps l : List ℕ) → (isTable l && isList steps) ≡ false → (ranOf st steps l ≡ BadShape) × (runTable st steps l ≡ l)
@@ -155,7 +154,7 @@ running-on st steps old l i n r d shape good three h s e f few =
     let next : executeTable st word xt xt2 l ≡ tableBy r l = new ∙ ap (λ (x : Resolved). tableBy x l) (sym e) in
     let count : executedDropped (executedOf st word xt xt2 l) ≡ d = ap executedDropped answer ∙ ap (λ (x : Resolved). executedDropped (executedBy x l)) (sym e) ∙ sym f in
     let same : length (tableBy r l) ≡ length l = ap length (sym next) ∙ execute-length st word xt xt2 l in
-    let words : length l ≤ 6144 = leb-true (length l) 6144 (and-1 (eqb (length l % 3) 0) (leb (length l) 6144) table) in
+    let words : length l ≤ 6144 = table-shape l table .1 in
     let left : stepsTable st rest (tableBy r l) ≡ stepsTable st (drop i steps) l =
     ap (stepsTable st rest) (sym next) ∙ ap (λ (m : List ℕ). stepsTable st m l) (sym cut) in
     let sum : stepsDropped st (drop i steps) l ≡ d + stepsDropped st rest (tableBy r l) =
@@ -262,11 +261,8 @@ any-reads st (x ∷ y ∷ z ∷ steps) a b c h = go (dropsBy (resolvedOf st x y 
     go false e rest i = rest i
 
 any-zeros : (st : State) (steps : List ℕ) → dropsAny st steps 0 0 0 ≡ false
-any-zeros st steps = go (dropsAny st steps 0 0 0) refl
-  where
-    go : (t : Bool) → dropsAny st steps 0 0 0 ≡ t → t ≡ false
-    go true h = sym (any-reads st steps 0 0 0 h) ∙ zero-empty 0
-    go false h = refl
+any-zeros st steps =
+    not-so (dropsAny st steps 0 0 0) (λ (h : dropsAny st steps 0 0 0 ≡ true). let f : true ≡ false = sym (any-reads st steps 0 0 0 h) ∙ zero-empty 0 in let z : _≡_ {A = ℕ} 0 1 = cc in omega arith)
 
 -- the steps leave three zeros for each slot that some step drops, and every other word, and their sum is the number of those slots
 pub steps-clear : (st : State) (steps l : List ℕ) → isTable l ≡ true → badState st ≡ false →

@@ -412,10 +412,14 @@ pub vmid-low : (t : ℕ) → companyAt t .vmid < 2 ^ 16
 unfolding companyAt
 vmid-low t = mod-lt (t / 2 ^ 8) (omega arith)
 
--- so one compare of the tag's lower part tells whether a slot is of the company that a number stands for
+-- so one compare of the tag's lower part tells whether a slot is of a company
+pub company-at : (c : Company) (t : ℕ) → c .vmid < 2 ^ 16 → t % 2 ^ 4 ≡ layout → sameCompany (companyAt t) c ≡ eqb (t % 2 ^ 26) (companyTag c)
+company-at c t hc ht =
+    let u : layout + bits 25 4 t * 2 ^ 4 ≡ t % 2 ^ 26 = omega arith in
+    company-tags (companyAt t) c (vmid-low t) hc ∙ ap (λ (n : ℕ). eqb n (companyTag c)) (company-there t ∙ u)
+
+-- and of the company that a number stands for
 pub company-key : (key t : ℕ) → key % 2 ^ 4 ≡ layout → key < 2 ^ 26 → t % 2 ^ 4 ≡ layout → sameCompany (companyAt t) (companyAt key) ≡ eqb (t % 2 ^ 26) key
 company-key key t hk hl ht =
     let k : layout + bits 25 4 key * 2 ^ 4 ≡ key = omega arith in
-    let u : layout + bits 25 4 t * 2 ^ 4 ≡ t % 2 ^ 26 = omega arith in
-    company-tags (companyAt t) (companyAt key) (vmid-low t) (vmid-low key)
-    ∙ ap₂ eqb (company-there t ∙ u) (company-there key ∙ k)
+    company-at (companyAt key) t (vmid-low key) ht ∙ ap (eqb (t % 2 ^ 26)) (company-there key ∙ k)

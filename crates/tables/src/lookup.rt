@@ -12,6 +12,7 @@ use entries::company_tag;
 use entries::entry_at;
 use entries::has_asids;
 use entries::is_entry;
+use entries::span_of;
 use machine::Company;
 use machine::Entry;
 use machine::LookedUp;
@@ -21,7 +22,6 @@ use machine::State;
 use processor::is_bad;
 use processor::security_in;
 use processor::vmid_in;
-use spans::exponent_of;
 use spans::in_span;
 
 pub fn look_up(table: &[u64], state: State, regime: Regime, asid: u16, address: u64) -> LookedUp
@@ -102,7 +102,7 @@ fn holds_address(entry: Entry, own: u8, asid: u16, address: u64) -> bool
 {
     let company = entry.company;
     let asids = has_asids(company);
-    let k = exponent_of(entry.wide, entry.granule as u64, entry.level);
+    let k = span_of(entry);
     let inside = in_span(entry.base, k, address);
     entry.leaf & (entry.processor == own) & inside & ((entry.asid == asid) | entry.global | !asids)
 }

@@ -2,16 +2,22 @@
 ghost use mathlib.Core.Path.{_≡_};
 ghost use Rattle.machine.specs.Table.{hasShape};
 
-// A multiple of three words, and at most 2,048 slots.
+// At most 2,048 slots of three words.
 pub fn is_table(words: usize) -> bool
     ensures { λ r. ⌜ r ≡ hasShape 6144 words ⌝ }
 {
-    (words % 3 == 0) & (words <= 6144)
+    has_shape(6144, words)
 }
 
-// A multiple of three words, and at most 16 steps.
+// At most 16 steps of three words.
 pub fn is_list(words: usize) -> bool
     ensures { λ r. ⌜ r ≡ hasShape 48 words ⌝ }
 {
-    (words % 3 == 0) & (words <= 48)
+    has_shape(48, words)
+}
+
+fn has_shape(most: usize, words: usize) -> bool
+    ensures { λ r. ⌜ r ≡ hasShape most words ⌝ }
+{
+    (words % 3 == 0) & (words <= most)
 }

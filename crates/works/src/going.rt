@@ -4,9 +4,9 @@ ghost use mathlib.Core.Bool.{true};
 ghost use mathlib.Core.Path.{_≡_};
 ghost use Rattle.machine.specs.Entry.{isLegal};
 ghost use Rattle.machine.specs.Goes.{isReached, isOwned, isGranuleOf, isMet, isWidthOf, isAtHint, isHinted, hasWidth, isLeafOf, isAsidOf, isXsOf, goes};
+use entries::span_of;
 use machine::Entry;
 use machine::Work;
-use spans::exponent_of;
 use spans::meets;
 use spans::size;
 
@@ -21,7 +21,7 @@ fn is_met(work: Work, entry: Entry) -> bool
     requires { ⌜ isLegal entry ≡ true ⌝ }
     ensures { λ r. ⌜ r ≡ isMet work entry ⌝ }
 {
-    let k = exponent_of(entry.wide, entry.granule as u64, entry.level);
+    let k = span_of(entry);
     meets(entry.base, k, work.first, work.last)
 }
 

@@ -1,40 +1,21 @@
 -- `works::going::is_met` meets its contract.
-use Prim.Native.Nat.{ℕ, _%_, _^_}
+use Prim.Native.Nat.{ℕ}
 use mathlib.Core.Path.{ap, _∙_}
-use native.Mathlib.Omega.{arith}
-use mir.Syntax.{w8}
-use mir.ValLaws.{toZ-ofZ}
-use borrow.Author.Needs.{sfits-of, needs}
-use Rattle.machine.proofs.Spans.{span-tg-most, span-level, span-most}
-use Rattle.machine.proofs.Tags.{legal}
-use Rattle.machine.specs.Entry.{isLegal}
-use Rattle.machine.specs.Span.{isLevel, exponentOf, meetsRange}
+use borrow.Author.Needs.{needs}
+use Rattle.machine.specs.Span.{meetsRange}
 use Rattle.works.proofs.going.is_met.Statement.{statement}
 use Rattle.works.proofs.going.is_met.Tie as tie
 
-cast-exponent-of : tie.Need-cast-exponent-of
-cast-exponent-of c = search needs
-
-exponent-of-requires : tie.Need-exponent-of-requires
-exponent-of-requires c κs =
-    let e = c .before .before .args .entry in
-    let k = legal e (c .before .before .pre) in
-    (span-tg-most (e .wide) (e .granule) (e .level) (k .span), ap isLevel (toZ-ofZ w8 (e .level) (search needs)) ∙ span-level (e .wide) (e .granule) (e .level) (k .span))
+span-of-requires : tie.Need-span-of-requires
+span-of-requires c κs = search needs
 
 meets-requires : tie.Need-meets-requires
-meets-requires c κs =
-    let e = c .before .before .before .args .entry in
-    let k = legal e (c .before .before .before .pre) in
-    let x = c .exponent-of .ensures .0 ∙ ap (exponentOf (e .wide) (e .granule)) (toZ-ofZ w8 (e .level) (sfits-of (c .before .struct-told .given .1 .1 .1 .1 .1 .1 .0 .1))) in
-    (omega (arith, x, span-most (e .wide) (e .granule) (e .level) (k .span)), ap (λ (j : ℕ). e .base % 2 ^ j) x ∙ k .multiple)
+meets-requires c κs = search needs
 
 returns : tie.Need-returns
-unfolding isLegal
 returns c =
-    let a = c .before .before .before .before .args in
-    let e = a .entry in
-    let x = c .before .exponent-of .ensures .0 ∙ ap (exponentOf (e .wide) (e .granule)) (toZ-ofZ w8 (e .level) (sfits-of (c .before .before .struct-told .given .1 .1 .1 .1 .1 .1 .0 .1))) in
-    c .meets .ensures ∙ ap (λ (j : ℕ). meetsRange (e .base) j (a .work .first) (a .work .last)) x
+    let a = c .before .before .args in
+    c .meets .ensures ∙ ap (λ (j : ℕ). meetsRange (a .entry .base) j (a .work .first) (a .work .last)) (c .before .span-of .ensures .0)
 
 pub is-met-spec : {M : Type 1} → statement M
-is-met-spec = tie.close (tie.spec cast-exponent-of exponent-of-requires meets-requires returns)
+is-met-spec = tie.close (tie.spec span-of-requires meets-requires returns)
