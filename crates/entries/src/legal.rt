@@ -24,7 +24,7 @@ fn is_placed(leaf: bool, level: i8, global: bool) -> bool
 }
 
 // Bits 63:55 are all 0 or all 1, or the base is below 2^56.
-fn in_reach(company: Company, base: u64) -> bool
+pub fn in_reach(company: Company, base: u64) -> bool
     ensures { λ r. ⌜ r ≡ inReach company base ⌝ }
 {
     let top = base / 0x80000000000000 % 512;

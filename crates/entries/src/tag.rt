@@ -3,6 +3,7 @@ ghost use Prim.Native.Nat.{_^_, _<_, _≤_};
 ghost use mathlib.Core.Bool.{true};
 ghost use mathlib.Core.Path.{_≡_};
 ghost use Rattle.machine.specs.Entry.{isLegal};
+ghost use Rattle.machine.specs.Table.{sameCompany};
 ghost use Rattle.machine.specs.Tag.{entryPlaces, companyTag, tagOf};
 use crate::number::flag;
 use crate::number::regime_number;
@@ -26,6 +27,13 @@ pub fn company_tag(company: Company) -> u64
         + (company.vmid as u64) * 0x100
         + stage * 0x1000000
         + space * 0x2000000
+}
+
+// Two companies agree: their places in a tag are one number.
+pub fn same_company(own: Company, other: Company) -> bool
+    ensures { λ r. ⌜ r ≡ sameCompany own other ⌝ }
+{
+    company_tag(own) == company_tag(other)
 }
 
 pub fn tag_of(entry: Entry) -> u64

@@ -4,5 +4,6 @@ mod refusal;
 mod running;
 mod single;
 
+pub use refusal::first_refused;
 pub use running::run;
 pub use single::execute;

@@ -5,5 +5,6 @@ pub mod Mask
 pub mod Bits
 pub mod Aligned
 pub mod Slots
+pub mod Any
 pub mod Clearing
 pub mod Sevens

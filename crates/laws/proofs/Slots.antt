@@ -1,13 +1,14 @@
 -- Lists as slots of three: the laws of a loop over them, and which slot is the first.
 use Prim.Native.Nat.{ℕ, zero, suc, _+_, _*_, _/_, _%_, _<_, _≤_}
-use mathlib.Core.Bool.{Bool, true, false, cond}
+use mathlib.Core.Bool.{Bool, true, false, cond, _||_}
 use mathlib.Core.List.{List, [], _∷_}
 use mathlib.Core.Path.{_≡_, refl, sym, ap, _∙_}
 use native.Mathlib.Omega.{arith}
 use lib.Dec.{ltb}
 use lib.ListN.{length, getD, drop, set, length-set, drop-of-length-le}
 use lib.Seq.{drop-cons, getD-set-same, getD-set-other}
-use borrow.Author.Tests.{ltb-true, ltb-false}
+use borrow.Author.Tests.{ltb-true, ltb-false, lt-ltb, le-ltb}
+use Rattle.laws.proofs.Truth.{clash}
 use Rattle.laws.specs.Slots.{slots, holdsAt, first, some, put}
 
 -- equal numbers pass alike
@@ -152,3 +153,26 @@ none-some p l none = go (some p l) refl
     go : (b : Bool) → some p l ≡ b → b ≡ false
     go true h = let low : first p l < slots l = ltb-true (first p l) (slots l) h in sym (first-holds p l low) ∙ none (first p l) low
     go false h = refl
+
+pub some-at : (p : ℕ → ℕ → ℕ → Bool) (l : List ℕ) (k : ℕ) → k < slots l → holdsAt p l k ≡ true → some p l ≡ true
+some-at p l k n h = go (some p l) refl
+  where
+    go : (b : Bool) → some p l ≡ b → some p l ≡ true
+    go true e = e
+    go false e = clash h (some-none p l e k n)
+
+-- the first slot passes, or one of the others
+pub some-cons : (p : ℕ → ℕ → ℕ → Bool) (x y z : ℕ) (l : List ℕ) → some p (x ∷ y ∷ z ∷ l) ≡ (p x y z || some p l)
+unfolding first
+some-cons p x y z l = go (p x y z)
+  where
+    long : slots (x ∷ y ∷ z ∷ l) ≡ suc (slots l)
+    long = omega arith
+
+    rest : (b : Bool) → some p l ≡ b → ltb (suc (first p l)) (slots (x ∷ y ∷ z ∷ l)) ≡ b
+    rest true e = lt-ltb (suc (first p l)) (slots (x ∷ y ∷ z ∷ l)) (omega (arith, long, ltb-true (first p l) (slots l) e))
+    rest false e = le-ltb (suc (first p l)) (slots (x ∷ y ∷ z ∷ l)) (omega (arith, long, ltb-false (first p l) (slots l) e))
+
+    go : (b : Bool) → ltb (cond b 0 (suc (first p l))) (slots (x ∷ y ∷ z ∷ l)) ≡ (b || some p l)
+    go true = lt-ltb 0 (slots (x ∷ y ∷ z ∷ l)) (omega (arith, long))
+    go false = rest (some p l) refl

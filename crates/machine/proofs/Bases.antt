@@ -1,12 +1,14 @@
 -- A base as a field of an operand and as an address: either gives the other back.
 use Prim.Native.Nat.{ℕ, _+_, _*_, _-_, _/_, _%_, _^_, _<_, _≤_}
-use mathlib.Core.Bool.{Bool, true, false, cond, _&&_}
+use mathlib.Core.Bool.{Bool, true, false, cond, _&&_, _||_}
 use mathlib.Core.Path.{_≡_, refl, sym, ap, subst, _∙_}
-use native.Mathlib.Nat.{mod-eq-of-lt, mod-lt, add-mul, mul-assoc, add-mul-mod-self-right}
+use native.Mathlib.Nat.{mod-eq-of-lt, mod-lt, add-mul, mul-assoc, mul-le-mul-right, add-mul-mod-self-right}
 use native.Mathlib.Omega.{arith}
-use lib.Dec.{leb}
+use lib.Dec.{eqb, ltb, leb}
 use lib.Pow.{shl-shr, shl-lt, high-ones, pow-add, pow-pos, pow-mono, split}
-use Rattle.laws.specs.Bits.{down}
+use borrow.Author.Tests.{leb-true, leb-false, lt-ltb, eq-eqb}
+use Rattle.laws.proofs.Truth.{or-left, or-right}
+use Rattle.laws.specs.Bits.{bits, down}
 use Rattle.machine.specs.Operand.{copiesTop, granuleExponent, unitExponent, extend, addressOf, fieldOf}
 use Rattle.machine.specs.declared.operand.Told.{Told}
 
@@ -129,3 +131,63 @@ address-fits t tg b g h =
     let fit : extend n (unitAt t tg) (copiesTop (t .form)) (keptOf (t .tlbip) tg b) < 2 ^ 64 =
     extend-fits n (unitAt t tg) (copiesTop (t .form)) (keptOf (t .tlbip) tg b) (room t tg g) (kept-most (t .tlbip) tg b h) in
     subst (λ (a : ℕ). a < 2 ^ 64) (sym (address-is t tg b)) fit
+
+-- an address of up to 56 bits whose top bit is copied upward has bits 63:55 equal, and one whose is not is below 2^56
+extend-two : (n k b : ℕ) → n + 1 + k ≤ 56 → b < 2 ^ (n + 1) →
+    (eqb (bits 63 55 (extend (n + 1) k true b)) 0 || eqb (bits 63 55 (extend (n + 1) k true b)) (2 ^ 9 - 1)) ≡ true
+extend-two n k b h u = go (leb (2 ^ (n + 1 - 1)) b) refl
+  where
+    less : n + 1 - 1 ≡ n
+    less = omega arith
+
+    half : 2 ^ (n + k) ≤ 2 ^ 55
+    half = pow-mono {i = n + k} {j = 55} (omega arith)
+
+    double : 2 ^ (n + 1 + k) ≡ 2 * 2 ^ (n + k)
+    double = let e : n + 1 + k ≡ 1 + (n + k) = omega arith in ap (λ (m : ℕ). 2 ^ m) e ∙ pow-add 2 1 (n + k)
+
+    go : (c : Bool) → leb (2 ^ (n + 1 - 1)) b ≡ c →
+        (eqb (bits 63 55 (cond c (b * 2 ^ k + (2 ^ 64 - 2 ^ (n + 1 + k))) (b * 2 ^ k))) 0
+        || eqb (bits 63 55 (cond c (b * 2 ^ k + (2 ^ 64 - 2 ^ (n + 1 + k))) (b * 2 ^ k))) (2 ^ 9 - 1))
+        ≡ true
+    go true e =
+        let least : 2 ^ n ≤ b = subst (λ (m : ℕ). 2 ^ m ≤ b) less (leb-true (2 ^ (n + 1 - 1)) b e) in
+        let low : 2 ^ (n + k) ≤ b * 2 ^ k = subst (λ (m : ℕ). m ≤ b * 2 ^ k) (sym (pow-add 2 n k)) (mul-le-mul-right (2 ^ k) least) in
+        let high : b * 2 ^ k < 2 ^ (n + 1 + k) = shl-lt (n + 1) k u in
+        let x : ℕ = b * 2 ^ k + (2 ^ 64 - 2 ^ (n + 1 + k)) in
+        let ones : bits 63 55 x ≡ 2 ^ 9 - 1 = top x (omega (arith, low, half, double)) (omega (arith, high, half, double)) in
+        or-right (eqb (bits 63 55 x) 0) (eqb (bits 63 55 x) (2 ^ 9 - 1)) (eq-eqb (bits 63 55 x) (2 ^ 9 - 1) ones)
+      where
+        top : (x : ℕ) → 2 ^ 64 - 2 ^ 55 ≤ x → x < 2 ^ 64 → bits 63 55 x ≡ 2 ^ 9 - 1
+        top x l m = omega arith
+    go false e =
+        let most : b < 2 ^ n = subst (λ (m : ℕ). b < 2 ^ m) less (leb-false (2 ^ (n + 1 - 1)) b e) in
+        let high : b * 2 ^ k < 2 ^ 55 = omega (arith, shl-lt n k most, half) in
+        let none : bits 63 55 (b * 2 ^ k) ≡ 0 = top (b * 2 ^ k) high in
+        or-left (eqb (bits 63 55 (b * 2 ^ k)) 0) (eqb (bits 63 55 (b * 2 ^ k)) (2 ^ 9 - 1)) (eq-eqb (bits 63 55 (b * 2 ^ k)) 0 none)
+      where
+        top : (x : ℕ) → x < 2 ^ 55 → bits 63 55 x ≡ 0
+        top x l = omega arith
+
+pub address-reach : (t : Told) (tg b : ℕ) → SomeGranule tg → b < 2 ^ widthOf (t .tlbip) →
+    cond (copiesTop (t .form)) (eqb (bits 63 55 (addressOf t tg b)) 0 || eqb (bits 63 55 (addressOf t tg b)) (2 ^ 9 - 1)) (ltb (addressOf t tg b) (2 ^ 56))
+    ≡ true
+address-reach t tg b (some, most) h =
+    subst (λ (a : ℕ). cond (copiesTop (t .form)) (eqb (bits 63 55 a) 0 || eqb (bits 63 55 a) (2 ^ 9 - 1)) (ltb a (2 ^ 56)) ≡ true) (sym (address-is t tg b))
+    (go (t .tlbip) (t .unit64k) (copiesTop (t .form)) (kept-most (t .tlbip) tg b h))
+  where
+    one : (n k x : ℕ) → n + k ≤ 56 → x < 2 ^ n → ltb (x * 2 ^ k) (2 ^ 56) ≡ true
+    one n k x r u = lt-ltb (x * 2 ^ k) (2 ^ 56) (omega (arith, shl-lt n k u, pow-mono {i = n + k} {j = 56} r))
+
+    go : (p u s : Bool) → keptOf p tg b < 2 ^ widthOf p →
+        cond s
+        (eqb (bits 63 55 (extend (widthOf p) (cond p 12 (unitExponent u tg)) s (keptOf p tg b))) 0
+        || eqb (bits 63 55 (extend (widthOf p) (cond p 12 (unitExponent u tg)) s (keptOf p tg b))) (2 ^ 9 - 1))
+        (ltb (extend (widthOf p) (cond p 12 (unitExponent u tg)) s (keptOf p tg b)) (2 ^ 56))
+        ≡ true
+    go true u true l = extend-two 43 12 (keptOf true tg b) (omega arith) l
+    go true u false l = one 44 12 (keptOf true tg b) (omega arith) l
+    go false true true l = extend-two 36 16 (keptOf false tg b) (omega arith) l
+    go false true false l = one 37 16 (keptOf false tg b) (omega arith) l
+    go false false true l = extend-two 36 (granuleExponent tg) (keptOf false tg b) (omega arith) l
+    go false false false l = one 37 (granuleExponent tg) (keptOf false tg b) (omega arith) l

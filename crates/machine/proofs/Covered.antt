@@ -1,16 +1,17 @@
 -- A range covers the addresses from its base on, as many as it is long, save those that there are not; and the operand's answers.
-use Prim.Native.Nat.{ℕ, _+_, _*_, _^_, _<_, _≤_}
-use mathlib.Core.Bool.{Bool, true, false, cond}
+use Prim.Native.Nat.{ℕ, _+_, _*_, _-_, _^_, _<_, _≤_}
+use mathlib.Core.Bool.{Bool, true, false, cond, _||_}
 use mathlib.Core.Logic.{_↔_}
 use mathlib.Core.Path.{_≡_, refl, subst}
 use native.Mathlib.Nat.{mul-pos}
 use native.Mathlib.Omega.{arith}
-use lib.Dec.{eqb}
+use lib.Dec.{eqb, ltb}
 use lib.Pow.{pow-pos}
-use Rattle.machine.proofs.Bases.{address-fits, field-most}
+use Rattle.laws.specs.Bits.{bits}
+use Rattle.machine.proofs.Bases.{address-fits, address-reach, field-most}
 use Rattle.machine.proofs.Fields.{writable, read-writable, read-within}
 use Rattle.machine.specs.Answer.{readNumber, writtenNumber, rangedNumber}
-use Rattle.machine.specs.Operand.{granuleExponent, addressOf, tgIn, fieldsIn, operandOf, fieldOf, isWritable, xtOf, xt2Of, wordsOf}
+use Rattle.machine.specs.Operand.{copiesTop, granuleExponent, addressOf, tgIn, fieldsIn, operandOf, fieldOf, isWritable, xtOf, xt2Of, wordsOf}
 use Rattle.machine.specs.Range.{lengthOf, rangeOf, isUnpredictable, rangedBy, rangedOf}
 use Rattle.machine.specs.declared.operand.Operand.{Operand}
 use Rattle.machine.specs.declared.operand.OperandRead.the-variants.{Fields, NoGranule}
@@ -23,6 +24,15 @@ read-base t xt xt2 o h =
     let w = read-within t xt xt2 o h in
     let s : addressOf t (o .tg) (fieldOf t (o .tg) (o .base)) ≡ o .base = writable t o (read-writable t xt xt2 o h) .shown in
     subst (λ (n : ℕ). n < 2 ^ 64) s (address-fits t (o .tg) (fieldOf t (o .tg) (o .base)) (w .0, w .1) (field-most t (o .tg) (o .base)))
+
+-- and its bits 63:55 are equal where there are two ranges, or it is below 2^56
+pub read-reach : (t : Told) (xt xt2 : ℕ) (o : Operand) → operandOf t xt xt2 ≡ Fields o →
+    cond (copiesTop (t .form)) (eqb (bits 63 55 (o .base)) 0 || eqb (bits 63 55 (o .base)) (2 ^ 9 - 1)) (ltb (o .base) (2 ^ 56)) ≡ true
+read-reach t xt xt2 o h =
+    let w = read-within t xt xt2 o h in
+    let s : addressOf t (o .tg) (fieldOf t (o .tg) (o .base)) ≡ o .base = writable t o (read-writable t xt xt2 o h) .shown in
+    subst (λ (n : ℕ). cond (copiesTop (t .form)) (eqb (bits 63 55 n) 0 || eqb (bits 63 55 n) (2 ^ 9 - 1)) (ltb n (2 ^ 56)) ≡ true) s
+    (address-reach t (o .tg) (fieldOf t (o .tg) (o .base)) (w .0, w .1) (field-most t (o .tg) (o .base)))
 
 -- some address is covered, and there is a last
 length-some : (o : Operand) → 0 < lengthOf o

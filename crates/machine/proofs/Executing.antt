@@ -19,7 +19,7 @@ use Rattle.machine.specs.Asked.{askedOf}
 use Rattle.machine.specs.Execute.{resolvedRange, resolvedAccess, resolvedWord, resolvedOf, executedBy, tableBy, executedOf, executeTable}
 use Rattle.machine.specs.Goes.{workOf, goes, drops}
 use Rattle.machine.specs.State.{badState}
-use Rattle.machine.specs.Table.{isTable, stage1Of}
+use Rattle.machine.specs.Table.{isTable, stage1Of, slotReads, slotEntry, Holds, Kept}
 use Rattle.machine.specs.Tag.{entryAt, isEntry}
 use Rattle.machine.specs.Word.{readOf}
 use Rattle.machine.specs.declared.entry.Company.{Company}
@@ -155,10 +155,6 @@ execute-refused st word xt xt2 l = go (isTable l) (badState st) (resolvedOf st w
     go true false resolved.Unpredictable n = refl
     go false b r n = refl
 
--- three words of slot k
-abbrev pub Holds : List ℕ → ℕ → ℕ → ℕ → ℕ → Type 0
-Holds l k a b c = (getD l (3 * k) 0 ≡ a) × (getD l (3 * k + 1) 0 ≡ b) × (getD l (3 * k + 2) 0 ≡ c)
-
 -- after an execution a slot is three zeros if it was dropped, and as it was if not
 pub cleared-zeros : (w : Work) (l : List ℕ) (k : ℕ) → k < slots l → holdsAt (drops w) l k ≡ true → Holds (cleared (drops w) l) k 0 0 0
 cleared-zeros w l k n h =
@@ -170,13 +166,6 @@ pub cleared-stays : (w : Work) (l : List ℕ) (k : ℕ) → k < slots l → hold
 cleared-stays w l k n h =
     let (x, y, z) = cleared-slot (drops w) l k n in
     (x ∙ simp h, y ∙ simp h, z ∙ simp h)
-
--- the entry of slot k, and whether the slot reads as one
-abbrev pub slotReads : ℕ → ℕ → ℕ → Bool
-slotReads base tag out = isEntry base tag
-
-abbrev pub slotEntry : List ℕ → ℕ → Entry
-slotEntry l k = entryAt (getD l (3 * k) 0) (getD l (3 * k + 1) 0)
 
 -- what holds where execute answers 0
 pub record After (st : State) (word xt xt2 : ℕ) (l : List ℕ) (w : Work) : Type 0 where
@@ -290,10 +279,6 @@ execute-length st word xt xt2 l = go (isTable l) (badState st) (resolvedOf st wo
     go true false resolved.NoGranule = refl
     go true false resolved.Unpredictable = refl
     go false b r = refl
-
--- the three words of slot k are in another table what they are in this one
-abbrev pub Kept : List ℕ → List ℕ → ℕ → Type 0
-Kept l m k = Holds m k (getD l (3 * k) 0) (getD l (3 * k + 1) 0) (getD l (3 * k + 2) 0)
 
 -- "harms no other company": an entry of another company than the operation's keeps its words
 pub execute-apart : (st : State) (word xt xt2 : ℕ) (l : List ℕ) (k : ℕ) → k < slots l →

@@ -12,13 +12,13 @@ use Rattle.laws.proofs.Slots.{slot-same, first-none, first-holds, first-is, som
 use Rattle.laws.proofs.Truth.{and-0, and-1}
 use Rattle.laws.specs.Slots.{slots, holdsAt, first, some}
 use Rattle.machine.proofs.Inserting.{taken, insert-done, others-read}
-use Rattle.machine.proofs.Tags.{Sized, entry-layout, written-reads, company-one, company-self, company-key}
+use Rattle.machine.proofs.Tags.{entry-layout, written-reads, company-one, company-self, company-key}
 use Rattle.machine.specs.Answer.{lookedUpNumber}
 use Rattle.machine.specs.Entry.{hasAsids, spanOf, isLegal}
 use Rattle.machine.specs.Span.{inSpan}
 use Rattle.machine.specs.State.{badState}
 use Rattle.machine.specs.Table.{hasShape, isTable, insertedOf, insertTable, sameCompany, stage1Of, holdsAddress, translates, matches, foundAt, lookedUpOf}
-use Rattle.machine.specs.Tag.{layout, tagOf, companyAt, entryAt, isEntry}
+use Rattle.machine.specs.Tag.{layout, tagOf, companyAt, entryAt, isEntry, Sized}
 use Rattle.machine.specs.declared.entry.Company.{Company}
 use Rattle.machine.specs.declared.entry.Entry.{Entry}
 use Rattle.machine.specs.declared.processor.State.{State}

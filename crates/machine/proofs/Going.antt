@@ -6,10 +6,10 @@ use native.Mathlib.Omega.{arith}
 use borrow.Author.Tests.{eqb-true, eq-eqb}
 use Rattle.laws.proofs.Truth.{and-0, and-1, not-so}
 use Rattle.laws.specs.Bits.{bits}
-use Rattle.machine.proofs.Tags.{Sized, written-reads, entry-layout, company-at}
+use Rattle.machine.proofs.Tags.{written-reads, entry-layout, company-at}
 use Rattle.machine.specs.Entry.{isLegal}
 use Rattle.machine.specs.Goes.{isReached, isOwned, isGranuleOf, isMet, isHinted, hasWidth, isLeafOf, isAsidOf, isXsOf, goes, keyOf, drops}
-use Rattle.machine.specs.Tag.{companyTag, tagOf, entryAt, isEntry}
+use Rattle.machine.specs.Tag.{companyTag, tagOf, entryAt, isEntry, Sized}
 use Rattle.machine.specs.declared.entry.Entry.{Entry}
 use Rattle.machine.specs.declared.work.Work.{Work}
 

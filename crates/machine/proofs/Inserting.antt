@@ -14,8 +14,8 @@ use Rattle.laws.specs.Slots.{slots, holdsAt, first, some, put}
 use Rattle.machine.specs.Answer.{insertedNumber, insertedSlot}
 use Rattle.machine.specs.Entry.{isLegal}
 use Rattle.machine.specs.Table.{hasShape, isTable, isEmpty, filled, insertedOf, insertTable}
-use Rattle.machine.specs.Tag.{tagOf, entryAt, isEntry}
-use Rattle.machine.proofs.Tags.{Sized, written-reads}
+use Rattle.machine.specs.Tag.{tagOf, entryAt, isEntry, Sized}
+use Rattle.machine.proofs.Tags.{written-reads}
 use Rattle.machine.specs.declared.entry.Entry.{Entry}
 use Rattle.machine.specs.declared.table.Inserted.{Inserted}
 use Rattle.machine.specs.declared.table.Inserted.the-variants.{At, BadShape, Illegal, Full}

@@ -14,6 +14,10 @@ pub mod Works
 pub mod Going
 pub mod Executing
 pub mod Running
+pub mod Halves
+pub mod Victims
+pub mod Judging
+pub mod Verdicts
 pub mod Corners
 pub mod Drops
 pub mod Covered

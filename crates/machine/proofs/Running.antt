@@ -11,16 +11,16 @@ use Rattle.laws.proofs.Clearing.{cleared-length, cleared-slot, emptied-same, cl
 use Rattle.laws.proofs.Slots.{slot-same, next-slot, first-none, first-holds}
 use Rattle.laws.proofs.Truth.{not-so}
 use Rattle.laws.specs.Slots.{slots, holdsAt, count, first, some, cleared, emptied}
-use Rattle.machine.proofs.Executing.{Holds, Kept, Never, slotReads, slotEntry, execute-good, execute-keeps, execute-length, never-guest, never-other}
+use Rattle.machine.proofs.Executing.{Never, execute-good, execute-keeps, execute-length, never-guest, never-other}
 use Rattle.machine.proofs.Going.{drop-reads}
 use Rattle.machine.proofs.Inserting.{has-shape, table-shape}
 use Rattle.machine.proofs.Tags.{zero-empty}
 use Rattle.machine.proofs.Works.{Owner}
 use Rattle.machine.specs.Answer.{executedNumber, executedDropped, ranNumber, ranStep, ranDropped}
-use Rattle.machine.specs.Execute.{resolvedOf, executedBy, tableBy, executedOf, executeTable, isList, isWork, refuses, stepsTable, stepsDropped, ranOf, runTable}
+use Rattle.machine.specs.Execute.{resolvedOf, executedBy, tableBy, executedOf, executeTable, isList, onWork, isWork, refuses, stepsTable, stepsDropped, ranOf, runTable}
 use Rattle.machine.specs.Goes.{drops}
 use Rattle.machine.specs.State.{badState}
-use Rattle.machine.specs.Table.{hasShape, isTable, stage1Of}
+use Rattle.machine.specs.Table.{hasShape, isTable, stage1Of, slotReads, slotEntry, Holds, Kept}
 use Rattle.machine.specs.Tag.{isEntry}
 use Rattle.machine.specs.declared.processor.State.{State}
 use Rattle.machine.specs.declared.scope.Regime.the-variants.{EL10}
@@ -215,13 +215,7 @@ run-one st word xt xt2 l h b r =
 
 -- A run as one clearing: the slots that a step drops, and those that some step of a list drops.
 abbrev pub dropsBy : Resolved → ℕ → ℕ → ℕ → Bool
-dropsBy (resolved.Works w) a b c = drops w a b c
-dropsBy resolved.Unknown a b c = false
-dropsBy resolved.Undefined a b c = false
-dropsBy (resolved.Trapped v) a b c = false
-dropsBy resolved.NoEffect a b c = false
-dropsBy resolved.NoGranule a b c = false
-dropsBy resolved.Unpredictable a b c = false
+dropsBy r a b c = onWork (λ w. drops w a b c) r
 
 unfoldable pub dropsAny : State → List ℕ → ℕ → ℕ → ℕ → Bool
 dropsAny st [] a b c = false

@@ -3,7 +3,7 @@ use Prim.Native.Nat.{ℕ, zero, suc, _+_, _*_, _-_, _/_, _%_, _^_, _<_, _≤_, m
 use mathlib.Core.Bool.{Bool, true, false, cond, _&&_}
 use mathlib.Core.List.{List, [], _∷_}
 use mathlib.Core.Path.{_≡_, refl, sym, ap, _∙_}
-use native.Mathlib.Nat.{mod-lt, mul-le-mul, mul-mod-left}
+use native.Mathlib.Nat.{mod-lt, mul-le-mul, mul-mod-left, add-mul, one-mul, div-lt-iff-lt-mul, le-div-iff-mul-le}
 use native.Mathlib.Omega.{arith}
 use lib.Dec.{leb}
 use lib.IntN.{ℤ, pos, negsuc}
@@ -189,3 +189,25 @@ meets-by base k first last a h l u =
     let x : first ≤ base + (2 ^ k - 1) = omega arith in
     let y : base ≤ last = omega arith in
     simp (le-leb _ _ x, le-leb _ _ y)
+
+-- the span of number y of its size meets a range exactly if y is not below the number of the span that holds the first address, and not above
+-- that of the last
+pub meets-number : (k y first last : ℕ) → first / 2 ^ k ≤ y → y ≤ last / 2 ^ k → meetsRange (y * 2 ^ k) k first last ≡ true
+meets-number k y first last l u =
+    let p : 1 ≤ 2 ^ k = pow-pos k in
+    let e : (y + 1) * 2 ^ k ≡ y * 2 ^ k + 2 ^ k = add-mul y 1 (2 ^ k) ∙ ap (λ (m : ℕ). y * 2 ^ k + m) (one-mul (2 ^ k)) in
+    let s : first / 2 ^ k < y + 1 = omega arith in
+    let a : first < (y + 1) * 2 ^ k = div-lt-iff-lt-mul {x = first} {y = y + 1} (pow-pos k) .0 s in
+    let i : first ≤ y * 2 ^ k + (2 ^ k - 1) = omega (arith, a, e) in
+    let j : y * 2 ^ k ≤ last = le-div-iff-mul-le (pow-pos k) .0 u in
+    simp (le-leb _ _ i, le-leb _ _ j)
+
+pub number-meets : (k y first last : ℕ) → meetsRange (y * 2 ^ k) k first last ≡ true → (first / 2 ^ k ≤ y) × (y ≤ last / 2 ^ k)
+number-meets k y first last h =
+    let p : 1 ≤ 2 ^ k = pow-pos k in
+    let i : first ≤ y * 2 ^ k + (2 ^ k - 1) = leb-true first (y * 2 ^ k + (2 ^ k - 1)) (and-0 (leb first (y * 2 ^ k + (2 ^ k - 1))) _ h) in
+    let j : y * 2 ^ k ≤ last = leb-true (y * 2 ^ k) last (and-1 (leb first (y * 2 ^ k + (2 ^ k - 1))) (leb (y * 2 ^ k) last) h) in
+    let e : (y + 1) * 2 ^ k ≡ y * 2 ^ k + 2 ^ k = add-mul y 1 (2 ^ k) ∙ ap (λ (m : ℕ). y * 2 ^ k + m) (one-mul (2 ^ k)) in
+    let a : first < (y + 1) * 2 ^ k = omega (arith, e) in
+    let s : first / 2 ^ k < y + 1 = div-lt-iff-lt-mul {x = first} {y = y + 1} (pow-pos k) .1 a in
+    (omega (arith, s), le-div-iff-mul-le (pow-pos k) .1 j)

@@ -16,7 +16,7 @@ use Rattle.machine.proofs.Spans.{by-level, span-tg-most, span-level}
 use Rattle.machine.specs.Entry.{isCompany, hasAsids, isPlaced, inReach, spanOf, isLegal}
 use Rattle.machine.specs.Span.{isLevel, heightOf, hasSpan}
 use Rattle.machine.specs.Table.{isEmpty, sameCompany}
-use Rattle.machine.specs.Tag.{layout, regimeNumber, securityNumber, flag, companyPlaces, entryPlaces, companyTag, tagOf, regimeAt, securityAt, companyAt, entryAt, isEntry}
+use Rattle.machine.specs.Tag.{layout, regimeNumber, securityNumber, flag, companyPlaces, entryPlaces, companyTag, tagOf, regimeAt, securityAt, companyAt, entryAt, isEntry, Sized}
 use Rattle.machine.specs.declared.entry.Company.{Company}
 use Rattle.machine.specs.declared.entry.Entry.{Entry}
 use Rattle.machine.specs.declared.scope.Regime.{Regime}
@@ -111,10 +111,6 @@ by-height P each (suc (suc (suc (suc (suc (suc (suc (suc n)))))))) h = absurd (o
 pub height-there : (n : ℕ) → n < 8 → heightOf (pos 3 -ℤ pos n) ≡ n
 unfolding heightOf
 height-there n h = by-height (λ (m : ℕ). heightOf (pos 3 -ℤ pos m) ≡ m) (refl, refl, refl, refl, refl, refl, refl, refl) n h
-
--- the numbers of an entry of legal fields are as wide as their places
-abbrev pub Sized : Entry → Type 0
-Sized e = (e .company .vmid < 2 ^ 16) × (e .asid < 2 ^ 16)
 
 -- each number of the lower part stands in its place, with more above it
 record Low (t r s v g n : ℕ) : Type 0 where
@@ -346,6 +342,13 @@ entry-layout base tag h =
     let l = isLegal (entryAt base tag) in
     let w = eqb (tagOf (entryAt base tag)) tag in
     eqb-true (tag % 2 ^ 4) layout (and-0 (eqb (tag % 2 ^ 4) layout) (ltb tag (2 ^ 54)) (sym (tag-whole base tag) ∙ and-1 l w h))
+
+pub entry-low : (base tag : ℕ) → isEntry base tag ≡ true → tag < 2 ^ 54
+unfolding isEntry
+entry-low base tag h =
+    let l = isLegal (entryAt base tag) in
+    let w = eqb (tagOf (entryAt base tag)) tag in
+    ltb-true tag (2 ^ 54) (and-1 (eqb (tag % 2 ^ 4) layout) (ltb tag (2 ^ 54)) (sym (tag-whole base tag) ∙ and-1 l w h))
 
 -- "as all zeros does": a tag of zero is nobody's
 pub zero-empty : (base : ℕ) → isEntry base 0 ≡ false

@@ -5,6 +5,7 @@ use mathlib.Core.Path.{_≡_, refl, sym, ap, ap₂, subst, _∙_}
 use native.Mathlib.Omega.{arith}
 use lib.Dec.{eqb, ltb}
 use borrow.Author.Tests.{eqb-true, lt-ltb, eq-eqb}
+use Rattle.laws.proofs.Truth.{or-right}
 use Rattle.laws.specs.Bits.{bits}
 use Rattle.laws.specs.Mask.{bitOf}
 use Rattle.machine.proofs.Covered.{read-base, range-some}
@@ -339,13 +340,9 @@ space-of st op s o = go (s .stage2) (isSecure (s .security)) (isTwoRanges (s .re
     zero : (b : Bool) → eqb (o .ns) 0 ≡ true → (not (eqb (o .ns) 1) || b) ≡ true
     zero b h = let e : o .ns ≡ 0 = eqb-true (o .ns) 0 h in ap (λ (n : ℕ). not (eqb n 1) || b) e
 
-    true-end : (b : Bool) → (b || true) ≡ true
-    true-end true = refl
-    true-end false = refl
-
     go : (a b c d : Bool) → fits (hasNs (cond a (cond b Stage2Ns Stage2NoNs) (cond c (cond d TwoRangesAsid TwoRanges) OneRange))) 1 (o .ns) ≡ true →
         (not (eqb (o .ns) 1) || (b && a)) ≡ true
-    go true true c d h = true-end (not (eqb (o .ns) 1))
+    go true true c d h = or-right (not (eqb (o .ns) 1)) true refl
     go true false c d h = zero false h
     go false b true true h = zero (b && false) h
     go false b true false h = zero (b && false) h

@@ -1,5 +1,11 @@
 -- 01, "Answer numbers": the number and the value of each case of an answer.
 use Prim.Native.Nat.{ℕ}
+use mathlib.Core.Bool.{false}
+use lib.IntN.{pos}
+use Rattle.machine.specs.declared.entry.Company.{Company}
+use Rattle.machine.specs.declared.entry.Entry.{Entry}
+use Rattle.machine.specs.declared.judge.Judged.{Judged}
+use Rattle.machine.specs.declared.judge.Judged.the-variants as judged
 use Rattle.machine.specs.declared.operand.Operand.{Operand}
 use Rattle.machine.specs.declared.operand.OperandRead.{OperandRead}
 use Rattle.machine.specs.declared.operand.OperandRead.the-variants as read
@@ -9,6 +15,8 @@ use Rattle.machine.specs.declared.operand.Ranged.{Ranged}
 use Rattle.machine.specs.declared.operand.Ranged.the-variants as ranged
 use Rattle.machine.specs.declared.scope.Access.{Access}
 use Rattle.machine.specs.declared.scope.Access.the-variants.{Undefined, Trapped, NoEffect, Runs}
+use Rattle.machine.specs.declared.scope.Regime.the-variants.{EL10}
+use Rattle.machine.specs.declared.scope.Security.the-variants.{Secure}
 use Rattle.machine.specs.declared.table.Inserted.{Inserted}
 use Rattle.machine.specs.declared.table.Inserted.the-variants as inserted
 use Rattle.machine.specs.declared.table.LookedUp.{LookedUp}
@@ -165,3 +173,48 @@ ranDropped (ran.Dropped n) = n
 ranDropped ran.BadShape = 0
 ranDropped ran.BadState = 0
 ranDropped (ran.Refused k) = 0
+
+-- "Judge: 13, 2, 8, 10 over all steps, 11 over all steps, 12.", the first such step, and the surviving entry; "Numbers not named are 0."
+abbrev pub judgedNumber : Judged → ℕ
+judgedNumber judged.Accepted = 0
+judgedNumber judged.BadShape = 13
+judgedNumber judged.BadState = 2
+judgedNumber judged.BadTarget = 8
+judgedNumber (judged.Refused k) = 10
+judgedNumber (judged.Outside k) = 11
+judgedNumber (judged.Gap e) = 12
+
+abbrev pub judgedStep : Judged → ℕ
+judgedStep judged.Accepted = 0
+judgedStep judged.BadShape = 0
+judgedStep judged.BadState = 0
+judgedStep judged.BadTarget = 0
+judgedStep (judged.Refused k) = k
+judgedStep (judged.Outside k) = k
+judgedStep (judged.Gap e) = 0
+
+abbrev pub noCompany : Company
+noCompany = record { regime = EL10; security = Secure; vmid = 0; stage2 = false; ns = false }
+
+abbrev pub noEntry : Entry
+noEntry = record {
+  processor = 0;
+  company = noCompany;
+  asid = 0;
+  global = false;
+  wide = false;
+  granule = 0;
+  level = pos 0;
+  leaf = false;
+  xs = false;
+  base = 0;
+}
+
+abbrev pub judgedEntry : Judged → Entry
+judgedEntry judged.Accepted = noEntry
+judgedEntry judged.BadShape = noEntry
+judgedEntry judged.BadState = noEntry
+judgedEntry judged.BadTarget = noEntry
+judgedEntry (judged.Refused k) = noEntry
+judgedEntry (judged.Outside k) = noEntry
+judgedEntry (judged.Gap e) = e

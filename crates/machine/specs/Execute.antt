@@ -18,6 +18,7 @@ use Rattle.machine.specs.declared.work.Executed.the-variants as executed
 use Rattle.machine.specs.declared.work.Ran.{Ran}
 use Rattle.machine.specs.declared.work.Ran.the-variants as ran
 use Rattle.machine.specs.declared.work.Resolved.{Resolved}
+use Rattle.machine.specs.declared.work.Work.{Work}
 use Rattle.machine.specs.declared.work.Resolved.the-variants as resolved
 use Rattle.machine.specs.Word.{readOf}
 use Rattle.machine.specs.State.{badState}
@@ -81,15 +82,19 @@ executeTable st word xt xt2 l = cond (isTable l) (cond (badState st) l (tableBy 
 abbrev pub isList : List ℕ → Bool
 isList steps = hasShape 48 (length steps)
 
+-- a test of the work, which none passes where there is none
+abbrev pub onWork : (Work → Bool) → Resolved → Bool
+onWork f (resolved.Works w) = f w
+onWork f resolved.Unknown = false
+onWork f resolved.Undefined = false
+onWork f (resolved.Trapped v) = false
+onWork f resolved.NoEffect = false
+onWork f resolved.NoGranule = false
+onWork f resolved.Unpredictable = false
+
 -- there is work
 abbrev pub isWork : Resolved → Bool
-isWork (resolved.Works w) = true
-isWork resolved.Unknown = false
-isWork resolved.Undefined = false
-isWork (resolved.Trapped v) = false
-isWork resolved.NoEffect = false
-isWork resolved.NoGranule = false
-isWork resolved.Unpredictable = false
+isWork r = onWork (λ w. true) r
 
 -- "a list's step doesn't answer 0"
 abbrev pub refuses : State → ℕ → ℕ → ℕ → Bool

@@ -12,6 +12,8 @@ pub mod Table
 pub mod Goes
 pub mod Answer
 pub mod Execute
+pub mod Target
+pub mod Judge
 pub mod Pages
 pub mod Text
 pub mod Listing

@@ -2,6 +2,7 @@
 use Prim.Native.Nat.{ℕ, _+_, _*_, _%_}
 use mathlib.Core.Bool.{Bool, true, false, cond, not, _&&_, _||_}
 use mathlib.Core.List.{List}
+use mathlib.Core.Path.{_≡_}
 use lib.Dec.{eqb, leb}
 use lib.ListN.{length, getD}
 use Rattle.laws.specs.Slots.{slots, first, some, put}
@@ -25,7 +26,21 @@ hasShape most words = eqb (words % 3) 0 && leb words most
 abbrev pub isTable : List ℕ → Bool
 isTable l = hasShape 6144 (length l)
 
--- "reads as empty"; the output word has no say
+-- the entry of slot k, and whether the slot reads as one; the output word has no say
+abbrev pub slotReads : ℕ → ℕ → ℕ → Bool
+slotReads base tag out = isEntry base tag
+
+abbrev pub slotEntry : List ℕ → ℕ → Entry
+slotEntry l k = entryAt (getD l (3 * k) 0) (getD l (3 * k + 1) 0)
+
+-- three words of slot k; and they are in another table what they are in this one
+abbrev pub Holds : List ℕ → ℕ → ℕ → ℕ → ℕ → Type 0
+Holds l k a b c = (getD l (3 * k) 0 ≡ a) × (getD l (3 * k + 1) 0 ≡ b) × (getD l (3 * k + 2) 0 ≡ c)
+
+abbrev pub Kept : List ℕ → List ℕ → ℕ → Type 0
+Kept l m k = Holds m k (getD l (3 * k) 0) (getD l (3 * k + 1) 0) (getD l (3 * k + 2) 0)
+
+-- "reads as empty"
 abbrev pub isEmpty : ℕ → ℕ → ℕ → Bool
 isEmpty base tag out = not (isEntry base tag)
 

@@ -1,5 +1,5 @@
 -- 01, "Sizes": how an entry stands in the base and the tag of a slot. docs/TAG.md has the placing as a table.
-use Prim.Native.Nat.{ℕ, zero, suc, _+_, _*_, _^_}
+use Prim.Native.Nat.{ℕ, zero, suc, _+_, _*_, _^_, _<_}
 use mathlib.Core.Bool.{Bool, true, false, cond, not, _&&_}
 use lib.Dec.{eqb}
 use lib.IntN.{pos, _-ℤ_}
@@ -93,6 +93,10 @@ entryAt base tag = record {
   xs = bitOf tag 50;
   base = base;
 }
+
+-- VMID and ASID have 16 bits
+abbrev pub Sized : Entry → Type 0
+Sized e = (e .company .vmid < 2 ^ 16) × (e .asid < 2 ^ 16)
 
 -- a slot reads as an entry if its fields are those of a legal entry which has this tag: "A slot that insert couldn't have written makes no sense
 -- and reads as empty, as all zeros does."

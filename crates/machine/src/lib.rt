@@ -1,5 +1,6 @@
-// The book's plain types: an operation, the processor state, an operand, an entry, the work of an operation, and what the calls over them answer.
+// The book's plain types: an operation, the processor state, an operand, an entry, the work of an operation, a target, and what the calls over them answer.
 mod entry;
+mod judge;
 mod operand;
 mod operation;
 mod processor;
@@ -9,6 +10,8 @@ mod work;
 
 pub use entry::Company;
 pub use entry::Entry;
+pub use judge::Judged;
+pub use judge::Target;
 pub use operand::Form;
 pub use operand::Operand;
 pub use operand::OperandRead;

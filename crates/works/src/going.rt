@@ -3,18 +3,18 @@ ghost use Prim.Native.Nat.{_≤_};
 ghost use mathlib.Core.Bool.{true};
 ghost use mathlib.Core.Path.{_≡_};
 ghost use Rattle.machine.specs.Entry.{isLegal};
-ghost use Rattle.machine.specs.Goes.{isReached, isOwned, isGranuleOf, isMet, isWidthOf, isAtHint, isHinted, hasWidth, isLeafOf, isAsidOf, isXsOf, goes};
+ghost use Rattle.machine.specs.Goes.{isReached, isOwned, isGranuleOf, isMet, isWidthOf, isAtHint, isAsidOf, goes};
 use entries::span_of;
 use machine::Entry;
 use machine::Work;
+use spans::bit_of;
 use spans::meets;
-use spans::size;
 
 fn is_reached(work: Work, entry: Entry) -> bool
     requires { ⌜ entry .processor ≤ 7 ⌝ }
     ensures { λ r. ⌜ r ≡ isReached work entry ⌝ }
 {
-    work.reached / size(entry.processor as u64) % 2 == 1
+    bit_of(work.reached, entry.processor as u64)
 }
 
 fn is_met(work: Work, entry: Entry) -> bool
