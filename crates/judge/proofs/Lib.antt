@@ -1,0 +1,8 @@
+-- Laws of the search.
+pub mod Loops
+pub mod Covering
+pub mod Walk
+pub mod Targets
+pub mod Deciding
+pub mod Computed
+pub mod Judgements

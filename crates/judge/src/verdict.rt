@@ -1,0 +1,50 @@
+// Judge: the checks in their order, and the search.
+ghost use mathlib.Core.Path.{_≡_};
+ghost use Rattle.machine.specs.Judge.{Sound, Verdict};
+use crate::asids::named_asid;
+use crate::search::search;
+use crate::steps::first_other;
+use crate::steps::works_of;
+use crate::target_rules::is_target;
+use execution::first_refused;
+use machine::Judged;
+use machine::State;
+use machine::Target;
+use processor::is_bad;
+use tables::is_list;
+
+pub fn judge(state: State, target: Target, list: &[u64]) -> Judged
+    ensures { λ r. ⌜ Verdict state target (now (list .entry)) r ⌝ }
+    ensures { λ r. ⌜ now (list .exit) ≡ now (list .entry) ⌝ }
+{
+    if !is_list(list.len()) {
+        return Judged::BadShape;
+    }
+    if is_bad(state) {
+        return Judged::BadState;
+    }
+    if !is_target(state, target) {
+        return Judged::BadTarget;
+    }
+    by_steps(state, target, list)
+}
+
+// What judge answers where shape, state and target are sound.
+fn by_steps(state: State, target: Target, list: &[u64]) -> Judged
+    requires { ⌜ Sound state target (now list) ⌝ }
+    ensures { λ r. ⌜ Verdict state target (now (list .entry)) r ⌝ }
+{
+    let n = list.len() / 3;
+    let refused = first_refused(list, state);
+    if refused < n {
+        return Judged::Refused(refused);
+    }
+    let works = works_of(list, state);
+    let company = target.company;
+    let outside = first_other(works, n, company);
+    if outside < n {
+        return Judged::Outside(outside);
+    }
+    let asid = named_asid(works, n, target);
+    search(works, n, target, asid)
+}
