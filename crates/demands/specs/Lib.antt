@@ -1,0 +1,3 @@
+-- What the calls promise, and what it is to leave one answer.
+pub mod Calls
+pub mod One
