@@ -4,7 +4,6 @@ mod cover;
 mod place;
 mod search;
 mod steps;
-mod target_rules;
 mod verdict;
 
 pub use verdict::judge;

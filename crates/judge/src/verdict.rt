@@ -5,13 +5,13 @@ use crate::asids::named_asid;
 use crate::search::search;
 use crate::steps::first_other;
 use crate::steps::works_of;
-use crate::target_rules::is_target;
 use execution::first_refused;
 use machine::Judged;
 use machine::State;
 use machine::Target;
 use processor::is_bad;
 use tables::is_list;
+use targets::is_target;
 
 pub fn judge(state: State, target: Target, list: &[u64]) -> Judged
     ensures { λ r. ⌜ Verdict state target (now (list .entry)) r ⌝ }

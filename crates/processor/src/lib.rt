@@ -1,16 +1,14 @@
-// The processor state: its check, what follows from its fields, and the access rules.
+// The processor state: its check, and what follows from its fields.
 mod board;
 mod check;
-mod decision;
 mod el2;
-mod reach;
-mod scope;
 mod security;
-mod trap;
 mod unit;
 
+pub use board::domain_at;
 pub use check::is_bad;
-pub use decision::decide;
+pub use el2::el2_enabled;
+pub use el2::hcrx_live;
 pub use el2::vmid_in;
 pub use security::is_secure;
 pub use security::security_in;

@@ -5,6 +5,7 @@ ghost use Rattle.machine.specs.Access.{accessOf};
 ghost use Rattle.machine.specs.Asked.{askedOf};
 ghost use Rattle.machine.specs.Execute.{resolvedRange, resolvedAccess, resolvedOf};
 ghost use Rattle.machine.specs.Goes.{companyOf, workOf};
+use access::decide;
 use machine::Access;
 use machine::Company;
 use machine::Decoded;
@@ -17,7 +18,6 @@ use machine::Scope;
 use machine::State;
 use machine::Work;
 use operands::asked;
-use processor::decide;
 use words::OperationWord;
 
 pub fn resolve(state: State, word: u64, xt: u64, xt2: u64) -> Resolved
