@@ -8,6 +8,7 @@ use lib.ListN.{length, getD}
 use Rattle.laws.specs.Slots.{slots, holdsAt, emptied}
 use Rattle.machine.proofs.Executing.{Done, done, After, after, execute-apart, execute-count, execute-length, guest-kept}
 use Rattle.machine.proofs.Going.{Goes, going, going-holds, drop-entry, drop-empty}
+use Rattle.machine.proofs.Works.{Resolves, resolves}
 use Rattle.machine.specs.Answer.{executedNumber, executedDropped}
 use Rattle.machine.specs.Execute.{resolvedOf, executeTable}
 use Rattle.machine.specs.Goes.{goes}
@@ -22,9 +23,10 @@ use Rattle.demands.specs.Calls.{Executes}
 
 -- what an execution that answers 0 has done
 pub record Exactly (st : State) (word xt xt2 : ℕ) (l : List ℕ) (r : Executed) (m : List ℕ) : Type 0 where
-  -- the operation, its range and its processors, which hang on the state and the operand and on no table
+  -- what the word comes to: the operation, its scope and its range, which hang on the state and the operand and on no table
   pub work : Work
   pub resolved : resolvedOf st word xt xt2 ≡ Works work
+  pub origin : Resolves st word xt xt2 work
   -- "A dropped slot is three zeros": every entry that goes
   pub gone : (k : ℕ) → k < slots l → holdsAt slotReads l k ≡ true → goes work (slotEntry l k) ≡ true → Holds m k 0 0 0
   -- "every other word stays": of an entry that does not go
@@ -40,6 +42,7 @@ pub dropped-exactly : (st : State) (word xt xt2 : ℕ) (l : List ℕ) (r : Execu
 dropped-exactly st word xt xt2 l r m h zero = record {
   work = w;
   resolved = d .resolved;
+  origin = resolves st word xt xt2 w (d .resolved);
   gone = λ (k : ℕ) (n : k < slots l) (e : holdsAt slotReads l k ≡ true) (g : goes w (slotEntry l k) ≡ true).
       subst (λ (t : List ℕ). Holds t k 0 0 0) (sym (h .1)) (a .zeros k n (drop-entry w (getD l (3 * k) 0) (getD l (3 * k + 1) 0) (getD l (3 * k + 2) 0) e ∙ g));
   stays = λ (k : ℕ) (n : k < slots l) (e : holdsAt slotReads l k ≡ true) (g : goes w (slotEntry l k) ≡ false).

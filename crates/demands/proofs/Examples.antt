@@ -33,17 +33,20 @@ abbrev withDs : State
 withDs = stateOn three-processors (record { el1 = true; el2 = false; el3 = false; stage2 = false }) 1 (two ∷ [])
 
 abbrev nested : State
-nested = at 1 (two ∷ NV ∷ [])
+nested = at 1 (two ∷ NV ∷ noLpa2 ∷ [])
 
 abbrev secure : State
-secure = at 3 (two ∷ three ∷ [])
+secure = at 3 (two ∷ three ∷ NV ∷ noLpa2 ∷ [])
 
--- a slot of a 4K page of the guest, and of a leaf of any granule and level
+-- a slot of a 4K page of the guest, of a leaf of any granule and level, and of a non-leaf entry
 abbrev paged : ℕ → List ℕ
 paged base = slot (page guest base) 5
 
 abbrev leaf : ℕ → ℤ → ℕ → List ℕ
 leaf tg l base = slot (placedOf false tg l true false base) 5
+
+abbrev branch : ℕ → ℤ → List ℕ
+branch tg l = slot (placedOf false tg l false false 0) 5
 
 -- "target 0x40000000 to 0x40003FFF, all ASIDs, 64-bit 4K, all levels, the step's company, IS reaching every named processor"
 abbrev target : Target
@@ -79,8 +82,10 @@ examples =
     (paged 0x3FFFF000 ++ zeros ++ zeros ++ paged 0x40002000)
     -- "m8 0x0000802000000001: 0x4000 to 0xBFFF, any level."
     ∷ range guesting 0xD5088260 0x0000802000000001 0x4000 0xBFFF
-    ∷ execution guesting 0xD5088260 0x0000802000000001 (leaf 2 (pos 3) 0 ++ leaf 2 (pos 3) 0x4000 ++ leaf 2 (pos 3) 0x8000 ++ leaf 2 (pos 3) 0xC000 ++ leaf 2 (pos 2) 0) 0 0 3
-    (leaf 2 (pos 3) 0 ++ zeros ++ zeros ++ leaf 2 (pos 3) 0xC000 ++ zeros)
+    ∷ execution guesting 0xD5088260 0x0000802000000001 (leaf 2 (pos 3) 0 ++ leaf 2 (pos 3) 0x4000 ++ leaf 2 (pos 3) 0x8000 ++ leaf 2 (pos 3) 0xC000) 0 0 2
+    (leaf 2 (pos 3) 0 ++ zeros ++ zeros ++ leaf 2 (pos 3) 0xC000)
+    ∷ execution guesting 0xD5088260 0x0000802000000001 (leaf 2 (pos 1) 0 ++ leaf 2 (pos 2) 0 ++ branch 2 (pos 0) ++ branch 2 (pos 1) ++ branch 2 (pos 2)) 0 0 5
+    (zeros ++ zeros ++ zeros ++ zeros ++ zeros)
     -- "m9 D54C80C0 with D128 at EL1, EL2 enabled, NV: 4, 0x14."
     ∷ execution nested 0xD54C80C0 0x0000400000040000 (paged 0x40000000) 4 0x14 0 (paged 0x40000000)
     -- "m10 the same at EL3, EL2 disabled: 5."

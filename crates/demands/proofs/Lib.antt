@@ -1,6 +1,8 @@
 -- The demands, a page each: every theorem speaks of what the calls promise (specs/Calls) and is drawn from the rooms below in a few lines.
 pub mod Answered
 pub mod Refused
+pub mod Senseless
+pub mod Happens
 pub mod Dropped
 pub mod Written
 pub mod Lists

@@ -5,6 +5,7 @@ use mathlib.Core.Bool.{true, false, not}
 use mathlib.Core.List.{List}
 use mathlib.Core.Logic.{_↔_}
 use mathlib.Core.Path.{_≡_, sym, ap, subst, _∙_}
+use native.Mathlib.Omega.{arith}
 use lib.ListN.{getD}
 use Rattle.laws.specs.Slots.{slots, holdsAt, some, emptied}
 use Rattle.machine.proofs.Running.{dropsAny, Stopped, stopped, ran-done, run-0, run-exactly, run-count, run-guest-kept}
@@ -15,7 +16,8 @@ use Rattle.machine.specs.Judge.{Does, Sound, Survivor, isOutside}
 use Rattle.machine.specs.Table.{slotReads, slotEntry, Kept, stage1Of}
 use Rattle.machine.specs.declared.entry.Entry.{Entry}
 use Rattle.machine.specs.declared.judge.Judged.{Judged}
-use Rattle.machine.specs.declared.judge.Judged.the-variants.{Outside, Gap}
+use Rattle.machine.specs.declared.judge.Judged.the-variants as judged
+use Rattle.machine.specs.declared.judge.Judged.the-variants.{Accepted, BadShape, BadState, BadTarget, Outside, Gap}
 use Rattle.machine.specs.declared.judge.Target.{Target}
 use Rattle.machine.specs.declared.processor.State.{State}
 use Rattle.machine.specs.declared.scope.Regime.the-variants.{EL10}
@@ -51,9 +53,18 @@ pub ran-guest-kept : (st : State) (steps l : List ℕ) (r : Ran) (m : List ℕ) 
 ran-guest-kept st steps l r m h el k n other = subst (λ (t : List ℕ). Kept l t k) (sym (h .1)) (run-guest-kept st l k el n other steps)
 
 -- Demand 3: accepted exactly when it does its work from every table of legal shape and harms no other company
-pub accepted-exactly : (st : State) (t : Target) (steps : List ℕ) (r : Judged) → st .vmid < 2 ^ 16 → Sound st t steps → Judges st t steps r →
-    (judgedNumber r ≡ 0) ↔ Does st t steps
-accepted-exactly st t steps r low s v = accepted-number st t steps r s low v
+pub accepted-exactly : (st : State) (t : Target) (steps : List ℕ) (r : Judged) → st .vmid < 2 ^ 16 → Judges st t steps r →
+    (judgedNumber r ≡ 0) ↔ (Sound st t steps × Does st t steps)
+accepted-exactly st t steps r low v = (there r v, λ (h : Sound st t steps × Does st t steps). accepted-number st t steps r (h .0) low v .1 (h .1))
+  where
+    there : (r : Judged) → Judges st t steps r → judgedNumber r ≡ 0 → Sound st t steps × Does st t steps
+    there Accepted v e = v
+    there BadShape v e = absurd (let z : _≡_ {A = ℕ} 13 0 = e in omega arith)
+    there BadState v e = absurd (let z : _≡_ {A = ℕ} 2 0 = e in omega arith)
+    there BadTarget v e = absurd (let z : _≡_ {A = ℕ} 8 0 = e in omega arith)
+    there (judged.Refused k) v e = absurd (let z : _≡_ {A = ℕ} 10 0 = e in omega arith)
+    there (Outside k) v e = absurd (let z : _≡_ {A = ℕ} 11 0 = e in omega arith)
+    there (Gap x) v e = absurd (let z : _≡_ {A = ℕ} 12 0 = e in omega arith)
 
 -- 12 exactly when, after the other checks, it does not
 pub gap-exactly : (st : State) (t : Target) (steps : List ℕ) (r : Judged) → st .vmid < 2 ^ 16 → Sound st t steps → some (refuses st) steps ≡ false →

@@ -1,35 +1,52 @@
--- Demand 1: "Each kind of refusal has its number and changes no word of any table. A slot that makes no sense reads as empty and hinders no other guest."
+-- Demand 1: "Each kind of refusal has its number and changes no word of any table."
 use Prim.Native.Nat.{ℕ, _^_, _<_}
-use mathlib.Core.Bool.{true, false, cond, not, _&&_}
+use mathlib.Core.Bool.{Bool, true, false, cond, not, _&&_}
 use mathlib.Core.List.{List}
 use mathlib.Core.Logic.{_↔_}
 use mathlib.Core.Path.{_≡_, refl, sym, ap, subst, _∙_}
-use lib.ListN.{length}
+use native.Mathlib.Omega.{arith}
+use lib.Dec.{eqb, ltb}
 use Rattle.laws.specs.Slots.{first, some}
+use Rattle.machine.proofs.Covered.{read-answer, write-answer}
 use Rattle.machine.proofs.Executing.{execute-answer, execute-refused}
 use Rattle.machine.proofs.Found.{lookup-answer}
 use Rattle.machine.proofs.Inserting.{insert-answer, insert-refused}
-use Rattle.machine.proofs.Running.{run-answer, run-refused}
-use Rattle.machine.proofs.Tags.{Written, reads-exactly}
-use Rattle.machine.proofs.Verdicts.{verdict-one}
-use Rattle.machine.specs.Answer.{insertedNumber, lookedUpNumber, resolvedNumber, executedNumber, ranNumber}
+use Rattle.machine.proofs.Running.{run-answer, run-refused, refuses-answer}
+use Rattle.machine.proofs.Trip.{reads-built}
+use Rattle.machine.proofs.Verdicts.{verdict-number, step-is, entry-is}
+use Rattle.machine.specs.Answer.{decodedNumber, builtNumber, readNumber, writtenNumber, judgedNumber, judgedStep, judgedEntry, noEntry, insertedNumber, lookedUpNumber, resolvedNumber, executedNumber, ranNumber}
 use Rattle.machine.specs.Entry.{isLegal}
 use Rattle.machine.specs.Execute.{resolvedOf, isList, refuses}
-use Rattle.machine.specs.Judge.{isOutside, Sound}
+use Rattle.machine.specs.Judge.{isOutside}
+use Rattle.machine.specs.Operand.{tgIn, isWritable}
 use Rattle.machine.specs.State.{badState}
-use Rattle.machine.specs.Table.{hasShape, isTable, isEmpty, stage1Of, matches}
+use Rattle.machine.specs.Table.{isTable, isEmpty, stage1Of, matches}
 use Rattle.machine.specs.Target.{isTarget}
+use Rattle.machine.specs.Word.{readOf, wordOf, builtOf}
 use Rattle.machine.specs.declared.entry.Entry.{Entry}
 use Rattle.machine.specs.declared.judge.Judged.{Judged}
-use Rattle.machine.specs.declared.judge.Judged.the-variants.{BadShape, BadState, BadTarget, Refused, Outside}
 use Rattle.machine.specs.declared.judge.Target.{Target}
+use Rattle.machine.specs.declared.operand.Operand.{Operand}
+use Rattle.machine.specs.declared.operand.OperandRead.{OperandRead}
+use Rattle.machine.specs.declared.operand.OperandWritten.{OperandWritten}
+use Rattle.machine.specs.declared.operand.Told.{Told}
+use Rattle.machine.specs.declared.operation.Built.{Built}
+use Rattle.machine.specs.declared.operation.Built.the-variants.{Word, Unfit}
+use Rattle.machine.specs.declared.operation.Decoded.{Decoded}
+use Rattle.machine.specs.declared.operation.Decoded.the-variants.{Known, Unknown}
+use Rattle.machine.specs.declared.operation.Operation.{Operation}
 use Rattle.machine.specs.declared.processor.State.{State}
 use Rattle.machine.specs.declared.scope.Regime.{Regime}
 use Rattle.machine.specs.declared.table.Inserted.{Inserted}
 use Rattle.machine.specs.declared.table.LookedUp.{LookedUp}
 use Rattle.machine.specs.declared.work.Executed.{Executed}
 use Rattle.machine.specs.declared.work.Ran.{Ran}
-use Rattle.demands.specs.Calls.{Inserts, LooksUp, Executes, Runs, Judges}
+use Rattle.demands.specs.Calls.{Decodes, Builds, Reads, Writes, Inserts, LooksUp, Executes, Runs, Judges}
+
+-- some operation builds the word
+pub record Operated (word : ℕ) : Type 0 where
+  pub operation : Operation
+  pub builds : builtOf operation ≡ Word word
 
 -- "Execute: 13, 2, 1, 3 to 5 by the access rules ..., 6, 7."
 pub execute-number : (st : State) (word xt xt2 : ℕ) (l : List ℕ) (r : Executed) (m : List ℕ) → Executes st word xt xt2 l r m →
@@ -51,25 +68,57 @@ pub run-number : (st : State) (steps l : List ℕ) (r : Ran) (m : List ℕ) → 
     ranNumber r ≡ cond (not (isTable l && isList steps)) 13 (cond (badState st) 2 (cond (some (refuses st) steps) 10 0))
 run-number st steps l r m h = ap ranNumber (h .0) ∙ run-answer st steps l
 
--- "Judge: 13, 2, 8, 10 over all steps, 11 over all steps, 12."; 12 and 0 are on the page of lists
-pub judge-13 : (st : State) (t : Target) (steps : List ℕ) (r : Judged) → st .vmid < 2 ^ 16 → Judges st t steps r → isList steps ≡ false → r ≡ BadShape
-judge-13 st t steps r low v h = verdict-one st t steps r BadShape low v h
+-- "Judge: 13, 2, 8, 10 over all steps, 11 over all steps, 12."; when the last row is 12 and when 0 is on the page of lists
+pub judge-number : (st : State) (t : Target) (steps : List ℕ) (r : Judged) → st .vmid < 2 ^ 16 → Judges st t steps r →
+    judgedNumber r
+    ≡ cond (not (isList steps)) 13
+    (cond (badState st) 2
+    (cond (not (isTarget st t)) 8 (cond (some (refuses st) steps) 10 (cond (some (isOutside st (t .company)) steps) 11 (cond (eqb (judgedNumber r) 12) 12 0)))))
+judge-number st t steps r low v =
+    verdict-number st t steps r low v
+    ∙ turned (isList steps) (badState st) (isTarget st t) (cond (some (refuses st) steps) 10 (cond (some (isOutside st (t .company)) steps) 11 (cond (eqb (judgedNumber r) 12) 12 0)))
+  where
+    turned : (a b c : Bool) (n : ℕ) → cond a (cond b 2 (cond c n 8)) 13 ≡ cond (not a) 13 (cond b 2 (cond (not c) 8 n))
+    turned true b true n = refl
+    turned true b false n = refl
+    turned false b c n = refl
 
-pub judge-2 : (st : State) (t : Target) (steps : List ℕ) (r : Judged) → st .vmid < 2 ^ 16 → Judges st t steps r →
-    isList steps ≡ true → badState st ≡ true → r ≡ BadState
-judge-2 st t steps r low v list bad = verdict-one st t steps r BadState low v (list, bad)
+-- "first such step"; "Numbers not named are 0."
+pub judge-step : (st : State) (t : Target) (steps : List ℕ) (r : Judged) → Judges st t steps r →
+    judgedStep r ≡ cond (eqb (judgedNumber r) 10) (first (refuses st) steps) (cond (eqb (judgedNumber r) 11) (first (isOutside st (t .company)) steps) 0)
+judge-step = step-is
 
-pub judge-8 : (st : State) (t : Target) (steps : List ℕ) (r : Judged) → st .vmid < 2 ^ 16 → Judges st t steps r →
-    isList steps ≡ true → badState st ≡ false → isTarget st t ≡ false → r ≡ BadTarget
-judge-8 st t steps r low v list good wrong = verdict-one st t steps r BadTarget low v (list, good, wrong)
+pub judge-entry : (r : Judged) → eqb (judgedNumber r) 12 ≡ false → judgedEntry r ≡ noEntry
+judge-entry = entry-is
 
-pub judge-10 : (st : State) (t : Target) (steps : List ℕ) (r : Judged) → st .vmid < 2 ^ 16 → Judges st t steps r →
-    Sound st t steps → some (refuses st) steps ≡ true → r ≡ Refused (first (refuses st) steps)
-judge-10 st t steps r low v s h = verdict-one st t steps r (Refused (first (refuses st) steps)) low v (s, h, refl)
+-- "a list's step doesn't answer 0": executed on any table of legal shape
+pub refused-step : (st : State) (word xt xt2 : ℕ) (l : List ℕ) (r : Executed) (m : List ℕ) → Executes st word xt xt2 l r m → isTable l ≡ true → badState st ≡ false →
+    refuses st word xt xt2 ≡ not (eqb (executedNumber r) 0)
+refused-step st word xt xt2 l r m h shape good =
+    refuses-answer st word xt xt2 l shape good ∙ ap (λ (x : Executed). not (eqb (executedNumber x) 0)) (sym (h .0))
 
-pub judge-11 : (st : State) (t : Target) (steps : List ℕ) (r : Judged) → st .vmid < 2 ^ 16 → Judges st t steps r →
-    Sound st t steps → some (refuses st) steps ≡ false → some (isOutside st (t .company)) steps ≡ true → r ≡ Outside (first (isOutside st (t .company)) steps)
-judge-11 st t steps r low v s done h = verdict-one st t steps r (Outside (first (isOutside st (t .company)) steps)) low v (s, done, h, refl)
+-- "Operand reader: 6; writer: 8."
+pub read-number : (t : Told) (xt xt2 : ℕ) (r : OperandRead) → Reads t xt xt2 r → readNumber r ≡ cond (eqb (tgIn xt) 0) 6 0
+read-number t xt xt2 r h = ap readNumber h ∙ read-answer t xt xt2
+
+pub write-number : (t : Told) (o : Operand) (r : OperandWritten) → Writes t o r → writtenNumber r ≡ cond (isWritable t o) 0 8
+write-number t o r h = ap writtenNumber h ∙ write-answer t o
+
+-- a word is 1 exactly where no operation builds it, and an operation has a word exactly where Rt is below 32
+pub decode-number : (word : ℕ) (r : Decoded) → Decodes word r → (decodedNumber r ≡ 0) ↔ Operated word
+decode-number word r h = (there r h, λ (o : Operated word). ap decodedNumber (h ∙ reads-built word (o .operation) .1 (o .builds)))
+  where
+    there : (r : Decoded) → r ≡ readOf word → decodedNumber r ≡ 0 → Operated word
+    there (Known op) e z = record { operation = op; builds = reads-built word op .0 (sym e) }
+    there Unknown e z = absurd (let n : _≡_ {A = ℕ} 1 0 = z in omega arith)
+
+pub build-number : (op : Operation) (r : Built) → Builds op r → builtNumber r ≡ cond (ltb (op .rt) 32) 0 8
+unfolding builtOf
+build-number op r h = ap builtNumber h ∙ go (ltb (op .rt) 32)
+  where
+    go : (b : Bool) → builtNumber (cond b (Word (wordOf op)) Unfit) ≡ cond b 0 8
+    go true = refl
+    go false = refl
 
 -- "Every answer but 0 leaves all lent memory unchanged."
 pub execute-unchanged : (st : State) (word xt xt2 : ℕ) (l : List ℕ) (r : Executed) (m : List ℕ) → Executes st word xt xt2 l r m →
@@ -86,23 +135,3 @@ run-unchanged st steps l r m h n = h .1 ∙ run-refused st steps l (subst (λ (x
 -- whatever look up answers
 pub look-up-unchanged : (st : State) (g : Regime) (asid address : ℕ) (l : List ℕ) (r : LookedUp) (m : List ℕ) → LooksUp st g asid address l r m → m ≡ l
 look-up-unchanged st g asid address l r m h = h .1
-
--- "A slot that insert couldn't have written makes no sense and reads as empty": it reads as an entry exactly where a legal entry and an output word
--- give its three words
-pub sense-exactly : (base tag out : ℕ) → (isEmpty base tag out ≡ false) ↔ Written base tag out
-sense-exactly = reads-exactly
-
--- "hinders no other guest": whether an execution or a run is done never hangs on what the slots hold
-pub execute-unhindered : (st : State) (word xt xt2 : ℕ) (l l' : List ℕ) (r r' : Executed) (m m' : List ℕ) →
-    Executes st word xt xt2 l r m → Executes st word xt xt2 l' r' m' → length l ≡ length l' → executedNumber r ≡ executedNumber r'
-execute-unhindered st word xt xt2 l l' r r' m m' h h' e =
-    execute-number st word xt xt2 l r m h
-    ∙ ap (λ (n : ℕ). cond (not (hasShape 6144 n)) 13 (cond (badState st) 2 (resolvedNumber (resolvedOf st word xt xt2)))) e
-    ∙ sym (execute-number st word xt xt2 l' r' m' h')
-
-pub run-unhindered : (st : State) (steps l l' : List ℕ) (r r' : Ran) (m m' : List ℕ) →
-    Runs st steps l r m → Runs st steps l' r' m' → length l ≡ length l' → ranNumber r ≡ ranNumber r'
-run-unhindered st steps l l' r r' m m' h h' e =
-    run-number st steps l r m h
-    ∙ ap (λ (n : ℕ). cond (not (hasShape 6144 n && isList steps)) 13 (cond (badState st) 2 (cond (some (refuses st) steps) 10 0))) e
-    ∙ sym (run-number st steps l' r' m' h')

@@ -2,16 +2,17 @@
 use Prim.Native.Nat.{ℕ, _+_, _*_, _<_, _≤_, _^_}
 use mathlib.Core.Bool.{true, false}
 use mathlib.Core.List.{List}
+use mathlib.Core.Logic.{_↔_}
 use mathlib.Core.Path.{_≡_, sym, ap, _∙_}
 use lib.ListN.{getD}
-use Rattle.laws.specs.Slots.{holdsAt}
+use Rattle.laws.specs.Slots.{slots, holdsAt}
 use Rattle.machine.proofs.Fields.{read-written, written-read, refused-unread}
-use Rattle.machine.proofs.Found.{Seen, seen, inserted-found}
+use Rattle.machine.proofs.Found.{Seen, seen, unseen, inserted-found}
 use Rattle.machine.proofs.Inserting.{Taken, taken, taken-reads}
 use Rattle.machine.proofs.Trip.{built-word, built-reads, read-builds, read-far}
 use Rattle.machine.specs.Operand.{staysXt, staysXt2, cleared}
 use Rattle.machine.specs.State.{badState}
-use Rattle.machine.specs.Table.{slotEntry, stage1Of, translates, matches, lookedUpOf, slotReads}
+use Rattle.machine.specs.Table.{slotEntry, stage1Of, translates, matches, lookedUpOf, slotReads, isTable}
 use Rattle.machine.specs.Tag.{Sized}
 use Rattle.machine.specs.Word.{readOf}
 use Rattle.machine.specs.declared.entry.Entry.{Entry}
@@ -29,7 +30,7 @@ use Rattle.machine.specs.declared.processor.State.{State}
 use Rattle.machine.specs.declared.scope.Regime.{Regime}
 use Rattle.machine.specs.declared.table.Inserted.the-variants.{At}
 use Rattle.machine.specs.declared.table.LookedUp.{LookedUp}
-use Rattle.machine.specs.declared.table.LookedUp.the-variants.{Found}
+use Rattle.machine.specs.declared.table.LookedUp.the-variants.{Found, NotFound}
 use Rattle.machine.specs.declared.table.Match.{Match}
 use Rattle.demands.specs.Calls.{Decodes, Builds, Reads, Writes, Inserts, LooksUp}
 
@@ -74,6 +75,15 @@ slot-back e out l k m z h =
 pub slot-found : (st : State) (g : Regime) (asid address : ℕ) (l : List ℕ) (f : Match) (m : List ℕ) → LooksUp st g asid address l (Found f) m →
     Seen st g asid address l f
 slot-found st g asid address l f m h = seen st g asid address l f (sym (h .0))
+
+-- 14 with all slots examined exactly where none matches: "position plus one, or all"
+pub slot-unseen : (st : State) (g : Regime) (asid address : ℕ) (l : List ℕ) (r : LookedUp) (m : List ℕ) → LooksUp st g asid address l r m → isTable l ≡ true →
+    badState st ≡ false → (r ≡ NotFound (slots l)) ↔ ((k : ℕ) → k < slots l → holdsAt (matches (stage1Of st g) (st .board .own) asid address) l k ≡ false)
+slot-unseen st g asid address l r m h shape good =
+    let (there, back) = unseen st g asid address l shape good in (
+      λ (e : r ≡ NotFound (slots l)). there (sym (h .0) ∙ e),
+      λ (none : (k : ℕ) → k < slots l → holdsAt (matches (stage1Of st g) (st .board .own) asid address) l k ≡ false). h .0 ∙ back none,
+    )
 
 -- what was inserted is found where no lower slot matches
 pub inserted-seen : (e : Entry) (out : ℕ) (l : List ℕ) (k : ℕ) (m : List ℕ) (st : State) (g : Regime) (asid address : ℕ) (r : LookedUp) (n : List ℕ) → Sized e →

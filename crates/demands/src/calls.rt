@@ -79,6 +79,7 @@ pub fn judge(state: State, target: Target, list: &[u64]) -> Judged
 
 pub fn list(code: &[u8], at: u64, out: &mut [u8]) -> Listed
     ensures { λ r. ⌜ Lists (now (code .entry)) at (now (out .entry)) r (now (out .exit)) ⌝ }
+    ensures { λ r. ⌜ now (code .exit) ≡ now (code .entry) ⌝ }
 {
     listing::list_code(code, at, out)
 }

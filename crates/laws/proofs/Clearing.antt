@@ -269,3 +269,51 @@ emptied-same q l z =
   where
     never : ℕ → ℕ → ℕ → Bool
     never a b c = false
+
+-- clearing the slots of one test changes neither the first nor the number of another that says of each of them what it says of three zeros
+pub cleared-alike : (p q : ℕ → ℕ → ℕ → Bool) → ((a b c : ℕ) → q a b c ≡ true → p 0 0 0 ≡ p a b c) → (l : List ℕ) →
+    (first p (cleared q l) ≡ first p l) × (count p (cleared q l) ≡ count p l)
+unfolding first count cleared
+cleared-alike p q h [] = (refl, refl)
+cleared-alike p q h (a ∷ []) = (refl, refl)
+cleared-alike p q h (a ∷ b ∷ []) = (refl, refl)
+cleared-alike p q h (a ∷ b ∷ c ∷ l) = go (q a b c) refl (cleared-alike p q h l)
+  where
+    on : (s t : Bool) → s ≡ t → (first p (cleared q l) ≡ first p l) × (count p (cleared q l) ≡ count p l) →
+        (cond s 0 (suc (first p (cleared q l))) ≡ cond t 0 (suc (first p l))) × (cond s 1 0 + count p (cleared q l) ≡ cond t 1 0 + count p l)
+    on s t e (f, n) = (ap₂ (λ (b : Bool) (k : ℕ). cond b 0 (suc k)) e f, ap₂ (λ (b : Bool) (k : ℕ). cond b 1 0 + k) e n)
+
+    go : (t : Bool) → q a b c ≡ t → (first p (cleared q l) ≡ first p l) × (count p (cleared q l) ≡ count p l) →
+        (first p (cond t (0 ∷ 0 ∷ 0 ∷ cleared q l) (a ∷ b ∷ c ∷ cleared q l)) ≡ cond (p a b c) 0 (suc (first p l)))
+        × (count p (cond t (0 ∷ 0 ∷ 0 ∷ cleared q l) (a ∷ b ∷ c ∷ cleared q l)) ≡ cond (p a b c) 1 0 + count p l)
+    go true e i = on (p 0 0 0) (p a b c) (h a b c e) i
+    go false e i = on (p a b c) (p a b c) refl i
+
+-- and two clearings can be done in either order
+pub cleared-swap : (p q : ℕ → ℕ → ℕ → Bool) (l : List ℕ) → cleared p (cleared q l) ≡ cleared q (cleared p l)
+unfolding cleared
+cleared-swap p q [] = refl
+cleared-swap p q (a ∷ []) = refl
+cleared-swap p q (a ∷ b ∷ []) = refl
+cleared-swap p q (a ∷ b ∷ c ∷ l) = go (p a b c) refl (q a b c) refl (cleared-swap p q l)
+  where
+    zeroed : (t : Bool) (m : List ℕ) → cond t (0 ∷ 0 ∷ 0 ∷ m) (0 ∷ 0 ∷ 0 ∷ m) ≡ 0 ∷ 0 ∷ 0 ∷ m
+    zeroed true m = refl
+    zeroed false m = refl
+
+    go : (s : Bool) → p a b c ≡ s → (t : Bool) → q a b c ≡ t → cleared p (cleared q l) ≡ cleared q (cleared p l) →
+        cleared p (cond t (0 ∷ 0 ∷ 0 ∷ cleared q l) (a ∷ b ∷ c ∷ cleared q l)) ≡ cleared q (cond s (0 ∷ 0 ∷ 0 ∷ cleared p l) (a ∷ b ∷ c ∷ cleared p l))
+    go true e true f i =
+        zeroed (p 0 0 0) (cleared p (cleared q l)) ∙ ap (λ (m : List ℕ). 0 ∷ 0 ∷ 0 ∷ m) i ∙ sym (zeroed (q 0 0 0) (cleared q (cleared p l)))
+    go true e false f i =
+        ap (λ (t : Bool). cond t (0 ∷ 0 ∷ 0 ∷ cleared p (cleared q l)) (a ∷ b ∷ c ∷ cleared p (cleared q l))) e
+        ∙ ap (λ (m : List ℕ). 0 ∷ 0 ∷ 0 ∷ m) i
+        ∙ sym (zeroed (q 0 0 0) (cleared q (cleared p l)))
+    go false e true f i =
+        zeroed (p 0 0 0) (cleared p (cleared q l))
+        ∙ ap (λ (m : List ℕ). 0 ∷ 0 ∷ 0 ∷ m) i
+        ∙ sym (ap (λ (t : Bool). cond t (0 ∷ 0 ∷ 0 ∷ cleared q (cleared p l)) (a ∷ b ∷ c ∷ cleared q (cleared p l))) f)
+    go false e false f i =
+        ap (λ (t : Bool). cond t (0 ∷ 0 ∷ 0 ∷ cleared p (cleared q l)) (a ∷ b ∷ c ∷ cleared p (cleared q l))) e
+        ∙ ap (λ (m : List ℕ). a ∷ b ∷ c ∷ m) i
+        ∙ sym (ap (λ (t : Bool). cond t (0 ∷ 0 ∷ 0 ∷ cleared q (cleared p l)) (a ∷ b ∷ c ∷ cleared q (cleared p l))) f)

@@ -388,13 +388,13 @@ survivor-one st t steps d e u v =
 
 -- "Judge: 13, 2, 8, 10 over all steps, 11 over all steps, 12.": "Each is given exactly when its row holds and no earlier check applies."; of the last
 -- row and of 0 `gap-number` and `accepted-number` say when
-abbrev rows : (list bad target refused outside : Bool) → ℕ → ℕ
+abbrev pub rows : (list bad target refused outside : Bool) → ℕ → ℕ
 rows list bad target refused outside n = cond list (cond bad 2 (cond target (cond refused 10 (cond outside 11 n)) 8)) 13
 
-abbrev lastRow : Judged → ℕ
+abbrev pub lastRow : Judged → ℕ
 lastRow v = cond (eqb (judgedNumber v) 12) 12 0
 
-verdict-number : (st : State) (t : Target) (steps : List ℕ) (v : Judged) → st .vmid < 2 ^ 16 → Verdict st t steps v →
+pub verdict-number : (st : State) (t : Target) (steps : List ℕ) (v : Judged) → st .vmid < 2 ^ 16 → Verdict st t steps v →
     judgedNumber v ≡ rows (isList steps) (badState st) (isTarget st t) (some (refuses st) steps) (some (isOutside st (t .company)) steps) (lastRow v)
 verdict-number st t steps Accepted low (s, d) = simp (s .list, s .state, s .target, does-done st t steps s d, does-inside st t steps s low d)
 verdict-number st t steps BadShape low h = simp h
@@ -419,7 +419,7 @@ answer-back (Refused k) = refl
 answer-back (Outside k) = refl
 answer-back (Gap e) = refl
 
-step-is : (st : State) (t : Target) (steps : List ℕ) (v : Judged) → Verdict st t steps v →
+pub step-is : (st : State) (t : Target) (steps : List ℕ) (v : Judged) → Verdict st t steps v →
     judgedStep v ≡ cond (eqb (judgedNumber v) 10) (first (refuses st) steps) (cond (eqb (judgedNumber v) 11) (first (isOutside st (t .company)) steps) 0)
 step-is st t steps Accepted h = refl
 step-is st t steps BadShape h = refl
@@ -429,7 +429,7 @@ step-is st t steps (Refused k) h = h .2
 step-is st t steps (Outside k) h = h .3
 step-is st t steps (Gap e) h = refl
 
-entry-is : (v : Judged) → eqb (judgedNumber v) 12 ≡ false → judgedEntry v ≡ noEntry
+pub entry-is : (v : Judged) → eqb (judgedNumber v) 12 ≡ false → judgedEntry v ≡ noEntry
 entry-is Accepted h = refl
 entry-is BadShape h = refl
 entry-is BadState h = refl

@@ -13,6 +13,10 @@ use Rattle.machine.specs.declared.operand.OperandWritten.{OperandWritten
 use Rattle.machine.specs.declared.operand.OperandWritten.the-variants.{Words, Refused}
 use Rattle.machine.specs.declared.operand.Ranged.{Ranged}
 use Rattle.machine.specs.declared.operand.Ranged.the-variants as ranged
+use Rattle.machine.specs.declared.operation.Built.{Built}
+use Rattle.machine.specs.declared.operation.Built.the-variants.{Word, Unfit}
+use Rattle.machine.specs.declared.operation.Decoded.{Decoded}
+use Rattle.machine.specs.declared.operation.Decoded.the-variants.{Known, Unknown}
 use Rattle.machine.specs.declared.scope.Access.{Access}
 use Rattle.machine.specs.declared.scope.Access.the-variants.{Undefined, Trapped, NoEffect, Runs}
 use Rattle.machine.specs.declared.scope.Regime.the-variants.{EL10}
@@ -27,6 +31,15 @@ use Rattle.machine.specs.declared.work.Ran.{Ran}
 use Rattle.machine.specs.declared.work.Ran.the-variants as ran
 use Rattle.machine.specs.declared.work.Resolved.{Resolved}
 use Rattle.machine.specs.declared.work.Resolved.the-variants as resolved
+
+-- "1 word isn't one of the operations"; an Rt without a place in a word is a "field" that "breaks a rule"
+abbrev pub decodedNumber : Decoded → ℕ
+decodedNumber (Known op) = 0
+decodedNumber Unknown = 1
+
+abbrev pub builtNumber : Built → ℕ
+builtNumber (Word w) = 0
+builtNumber Unfit = 8
 
 -- "3 UNDEFINED", "4 trapped to EL2", "5 ends without effect"; 0 says only that no access rule refuses
 abbrev pub accessNumber : Access → ℕ
