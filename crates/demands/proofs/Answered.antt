@@ -21,7 +21,7 @@ use Rattle.machine.specs.declared.operand.Told.{Told}
 use Rattle.machine.specs.declared.operation.Operation.{Operation}
 use Rattle.machine.specs.declared.processor.State.{State}
 use Rattle.machine.specs.declared.scope.Regime.{Regime}
-use Rattle.demands.specs.Calls.{Decodes, Builds, Reads, Writes, Inserts, LooksUp, Executes, Runs, Judges, Lists, Tails}
+use Rattle.calls.specs.Promises.{Decodes, Builds, Reads, Writes, Inserts, LooksUp, Executes, Runs, Judges, Lists, Tails}
 use Rattle.demands.specs.One.{OneAnswer, One}
 
 pub decode-one : (word : ℕ) → OneAnswer (Decodes word)

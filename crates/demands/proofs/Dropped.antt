@@ -19,7 +19,7 @@ use Rattle.machine.specs.declared.scope.Regime.the-variants.{EL10}
 use Rattle.machine.specs.declared.work.Executed.{Executed}
 use Rattle.machine.specs.declared.work.Resolved.the-variants.{Works}
 use Rattle.machine.specs.declared.work.Work.{Work}
-use Rattle.demands.specs.Calls.{Executes}
+use Rattle.calls.specs.Promises.{Executes}
 
 -- what an execution that answers 0 has done
 pub record Exactly (st : State) (word xt xt2 : ℕ) (l : List ℕ) (r : Executed) (m : List ℕ) : Type 0 where

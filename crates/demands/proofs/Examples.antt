@@ -14,7 +14,7 @@ use Rattle.machine.specs.declared.judge.Judged.{Judged}
 use Rattle.machine.specs.declared.judge.Target.{Target}
 use Rattle.machine.specs.declared.processor.State.{State}
 use Rattle.machine.specs.declared.work.Executed.{Executed}
-use Rattle.demands.specs.Calls.{Executes, Judges}
+use Rattle.calls.specs.Promises.{Executes, Judges}
 
 -- An example: what goes in, and what comes out.
 pub data Example : Type 0 where

@@ -19,7 +19,7 @@ use Rattle.machine.specs.declared.scope.Access.{Access}
 use Rattle.machine.specs.declared.scope.Access.the-variants.{Runs}
 use Rattle.machine.specs.declared.scope.Scope.{Scope}
 use Rattle.machine.specs.declared.work.Executed.{Executed}
-use Rattle.demands.specs.Calls.{Executes}
+use Rattle.calls.specs.Promises.{Executes}
 
 -- an execution on a table of legal shape, in a state that is not bad
 pub record Executing (st : State) (word xt xt2 : ℕ) (r : Executed) : Type 0 where

@@ -1,4 +1,4 @@
--- The demands, a page each: every theorem speaks of what the calls promise (specs/Calls) and is drawn from the rooms below in a few lines.
+-- The demands, a page each: every theorem speaks of what the calls promise (calls/specs/Promises) and is drawn from the rooms below in a few lines.
 pub mod Answered
 pub mod Refused
 pub mod Senseless

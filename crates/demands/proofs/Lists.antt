@@ -23,7 +23,7 @@ use Rattle.machine.specs.declared.processor.State.{State}
 use Rattle.machine.specs.declared.scope.Regime.the-variants.{EL10}
 use Rattle.machine.specs.declared.work.Ran.{Ran}
 use Rattle.machine.specs.declared.work.Ran.the-variants.{Refused}
-use Rattle.demands.specs.Calls.{Runs, Judges}
+use Rattle.calls.specs.Promises.{Runs, Judges}
 
 -- "else all steps in order and the sum of dropped slots"
 pub ran-in-order : (st : State) (steps l : List ℕ) (r : Ran) (m : List ℕ) → Runs st steps l r m → ranNumber r ≡ 0 →

@@ -34,7 +34,7 @@ use Rattle.machine.specs.declared.judge.Target.{Target}
 use Rattle.machine.specs.declared.processor.State.{State}
 use Rattle.machine.specs.declared.work.Executed.{Executed}
 use Rattle.demands.proofs.Examples.{Example, range, execution, judgement, examples, Shows, All, none, more}
-use Rattle.demands.specs.Calls.{Executes, Judges}
+use Rattle.calls.specs.Promises.{Executes, Judges}
 
 -- The test.
 unfoldable same : List ℕ → List ℕ → Bool

@@ -41,7 +41,7 @@ use Rattle.machine.specs.declared.table.Inserted.{Inserted}
 use Rattle.machine.specs.declared.table.LookedUp.{LookedUp}
 use Rattle.machine.specs.declared.work.Executed.{Executed}
 use Rattle.machine.specs.declared.work.Ran.{Ran}
-use Rattle.demands.specs.Calls.{Decodes, Builds, Reads, Writes, Inserts, LooksUp, Executes, Runs, Judges}
+use Rattle.calls.specs.Promises.{Decodes, Builds, Reads, Writes, Inserts, LooksUp, Executes, Runs, Judges}
 
 -- some operation builds the word
 pub record Operated (word : ℕ) : Type 0 where

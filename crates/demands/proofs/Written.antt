@@ -32,7 +32,7 @@ use Rattle.machine.specs.declared.table.Inserted.the-variants.{At}
 use Rattle.machine.specs.declared.table.LookedUp.{LookedUp}
 use Rattle.machine.specs.declared.table.LookedUp.the-variants.{Found, NotFound}
 use Rattle.machine.specs.declared.table.Match.{Match}
-use Rattle.demands.specs.Calls.{Decodes, Builds, Reads, Writes, Inserts, LooksUp}
+use Rattle.calls.specs.Promises.{Decodes, Builds, Reads, Writes, Inserts, LooksUp}
 
 -- reading what was written gives the same fields
 pub operand-back : (t : Told) (o : Operand) (xt xt2 : ℕ) (r : OperandRead) → Writes t o (Words xt xt2) → Reads t xt xt2 r → r ≡ Fields o

@@ -1,3 +1,2 @@
--- What the calls promise, and what it is to leave one answer.
-pub mod Calls
+-- What it is to leave one answer.
 pub mod One

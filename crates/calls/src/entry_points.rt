@@ -1,6 +1,6 @@
 // The public calls. None asks anything of its caller: any instruction word, operand, processor state, table or list gets an answer.
 ghost use mathlib.Core.Path.{_≡_};
-ghost use Rattle.demands.specs.Calls.{Decodes, Builds, Reads, Writes, Inserts, LooksUp, Executes, Runs, Judges, Lists, Tails};
+ghost use Rattle.calls.specs.Promises.{Decodes, Builds, Reads, Writes, Inserts, LooksUp, Executes, Runs, Judges, Lists, Tails};
 use listing::Listed;
 use machine::Built;
 use machine::Decoded;
