@@ -4,8 +4,8 @@ ghost use Rattle.machine.specs.Entry.{isEL10, isRoot, isStateOf, isCompany, has
 use machine::Company;
 use machine::Regime;
 use machine::Security;
-use operands::is_two_ranges;
 use processor::is_secure;
+use ranges::is_two_ranges;
 
 fn is_el10(regime: Regime) -> bool
     ensures { λ r. ⌜ r ≡ isEL10 regime ⌝ }

@@ -1,5 +1,4 @@
 // Execute and run: what operations do to a table.
-mod dropping;
 mod refusal;
 mod running;
 mod single;

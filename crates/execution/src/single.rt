@@ -3,7 +3,7 @@ ghost use Prim.Native.Nat.{_%_};
 ghost use mathlib.Core.Path.{_≡_};
 ghost use lib.ListN.{length};
 ghost use Rattle.machine.specs.Execute.{executedBy, tableBy, resolvedOf, executedOf, executeTable};
-use crate::dropping::drop_all;
+use dropping::drop_all;
 use machine::Executed;
 use machine::Resolved;
 use machine::State;

@@ -6,7 +6,7 @@ ghost use lib.ListN.{length, drop};
 ghost use Rattle.machine.specs.Listing.{isListed, lineAt, writtenOf, tailOf, tailWritten};
 ghost use Rattle.text.specs.Put.{Put};
 ghost use Rattle.listing.specs.Listed.{listedOf, wordAt};
-use crate::line::put_line;
+use lines::put_line;
 use machine::Decoded;
 use machine::Operation;
 use text::put_byte;

@@ -1,6 +1,5 @@
 // The listing of A64 code: the text of its operations, a line each, and the tail line.
 mod code;
-mod line;
 
 pub use code::Listed;
 pub use code::list_code;

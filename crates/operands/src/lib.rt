@@ -1,17 +1,11 @@
-// Operands: reader, writer, and the range that an operand means.
+// Operands: the fields of register words, read and written.
 mod base;
 mod form;
 mod granule;
 mod hint;
-mod length;
-mod multiple;
-mod range;
 mod read;
-mod register;
 mod write;
 
-pub use range::ranged;
+pub use granule::in_bytes;
 pub use read::read_operand;
-pub use register::asked;
-pub use register::is_two_ranges;
 pub use write::write_operand;

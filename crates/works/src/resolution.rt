@@ -17,7 +17,7 @@ use machine::Resolved;
 use machine::Scope;
 use machine::State;
 use machine::Work;
-use operands::asked;
+use ranges::asked;
 use words::OperationWord;
 
 pub fn resolve(state: State, word: u64, xt: u64, xt2: u64) -> Resolved

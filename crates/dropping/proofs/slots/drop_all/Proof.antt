@@ -1,0 +1,126 @@
+-- `dropping::slots::drop_all` meets its contract.
+use Prim.Native.Nat.{_-_}
+use mathlib.Core.Logic.{⊎-elim}
+use mathlib.Core.Path.{sym, _∙_}
+use native.Mathlib.Omega.{arith}
+use lib.ListN.{length, length-set}
+use borrow.Author.Needs.{needs}
+use Rattle.laws.proofs.Clearing.{Clearing, clear-start, clear-drop, clear-keep, clear-end}
+use Rattle.machine.specs.Goes.{drops}
+use Rattle.dropping.proofs.slots.drop_all.Statement.{statement}
+use Rattle.dropping.proofs.slots.drop_all.Tie as tie
+
+abbrev Inv-loop : tie.InvT-loop
+Inv-loop table₀ work key i₀ n₀ table i n = Clearing (drops work) table₀ table i n
+
+abbrev μ-loop : tie.MeasureT-loop
+μ-loop table₀ work key i₀ n₀ table i n = length table - i
+
+key-of-requires : tie.Need-key-of-requires Inv-loop μ-loop
+key-of-requires c κs = search needs
+
+loop-holds : tie.Need-loop-holds Inv-loop μ-loop
+loop-holds c = clear-start (drops (c .before .before .args .work)) (c .before .before .args .table .now) (c .before .before .pre .0)
+
+mul-is-dropped : tie.Need-mul-is-dropped Inv-loop μ-loop
+mul-is-dropped c = search needs
+
+slice-read-is-dropped : tie.Need-slice-read-is-dropped Inv-loop μ-loop
+slice-read-is-dropped c = search needs
+
+add-is-dropped : tie.Need-add-is-dropped Inv-loop μ-loop
+add-is-dropped c = search needs
+
+mul-is-dropped-2 : tie.Need-mul-is-dropped-2 Inv-loop μ-loop
+mul-is-dropped-2 c = search needs
+
+slice-read-is-dropped-2 : tie.Need-slice-read-is-dropped-2 Inv-loop μ-loop
+slice-read-is-dropped-2 c = search needs
+
+is-dropped-requires : tie.Need-is-dropped-requires Inv-loop μ-loop
+is-dropped-requires c κs = search needs
+
+mul-table : tie.Need-mul-table Inv-loop μ-loop
+mul-table c = search needs
+
+slice-write-table : tie.Need-slice-write-table Inv-loop μ-loop
+slice-write-table c = search needs
+
+add-table : tie.Need-add-table Inv-loop μ-loop
+add-table c = search needs
+
+mul-table-2 : tie.Need-mul-table-2 Inv-loop μ-loop
+mul-table-2 c = search needs
+
+slice-write-table-2 : tie.Need-slice-write-table-2 Inv-loop μ-loop
+slice-write-table-2 c = simp length-set (omega arith)
+
+add-table-2 : tie.Need-add-table-2 Inv-loop μ-loop
+add-table-2 c = search needs
+
+mul-table-3 : tie.Need-mul-table-3 Inv-loop μ-loop
+mul-table-3 c = search needs
+
+slice-write-table-3 : tie.Need-slice-write-table-3 Inv-loop μ-loop
+slice-write-table-3 c = simp length-set (omega arith)
+
+add-n : tie.Need-add-n Inv-loop μ-loop
+add-n c = search needs
+
+add-i : tie.Need-add-i Inv-loop μ-loop
+add-i c = search needs
+
+loop-again : tie.Need-loop-again Inv-loop μ-loop
+unfolding drops
+loop-again c =
+    let a = c .before .before .before .before .before .before .before .before .args in
+    let l = c .before .before .before .before .before .loop in
+    let h = sym (c .before .is-dropped .ensures) in
+    ⊎-elim
+    (λ w. rw (w .1, w .2) (clear-drop (drops (a .work)) (a .table .now) (l .table) (l .i) (l .n) (c .before .before .before .before .loop-test .taken) (l .inv) (h ∙ w .0 .taken)))
+    (λ w. rw (w .1, w .2) (clear-keep (drops (a .work)) (a .table .now) (l .table) (l .i) (l .n) (c .before .before .before .before .loop-test .taken) (l .inv) (h ∙ w .0 .left)))
+    (c .if1 .came)
+
+loop-less : tie.Need-loop-less Inv-loop μ-loop
+loop-less c =
+    let s = loop-again c in
+    let l = c .before .before .before .before .before .loop in
+    omega (arith, s .0, l .inv .0, c .before .before .before .before .loop-test .taken)
+
+same-length : tie.Need-same-length Inv-loop μ-loop
+same-length c = search needs
+
+returns : tie.Need-returns Inv-loop μ-loop
+returns c =
+    let a = c .before .before .before .before .args in
+    let e = clear-end (drops (a .work)) (a .table .now) (c .before .loop .table) (c .before .loop .i) (c .before .loop .n) (c .loop-test .left) (c .before .loop .inv) in
+    (e .1, e .0)
+
+pub drop-all-spec : {M : Type 1} → statement M
+drop-all-spec =
+    tie.close
+    (tie.spec
+    Inv-loop
+    μ-loop
+    key-of-requires
+    loop-holds
+    mul-is-dropped
+    slice-read-is-dropped
+    add-is-dropped
+    mul-is-dropped-2
+    slice-read-is-dropped-2
+    is-dropped-requires
+    mul-table
+    slice-write-table
+    add-table
+    mul-table-2
+    slice-write-table-2
+    add-table-2
+    mul-table-3
+    slice-write-table-3
+    add-n
+    add-i
+    loop-less
+    loop-again
+    same-length
+    returns)

@@ -1,0 +1,4 @@
+// Dropping: one pass over a table, which clears the entries that go.
+mod slots;
+
+pub use slots::drop_all;
