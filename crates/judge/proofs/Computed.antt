@@ -25,15 +25,15 @@ use Rattle.machine.specs.declared.judge.Judged.the-variants.{Accepted, BadShape
 use Rattle.machine.specs.declared.judge.Target.{Target}
 use Rattle.machine.specs.declared.processor.State.{State}
 use Rattle.machine.specs.declared.work.Work.{Work}
-use Rattle.judge.proofs.Covering.{Used, used-start, used-more, used-few, used-end, named-own, named-free, named-none, number-most}
+use Rattle.coverage.proofs.Covering.{Used, used-start, used-more, used-few, used-end, named-own, named-free, named-none, number-most}
 use Rattle.judge.proofs.Deciding.{searches, decides, step-works}
 use Rattle.judge.proofs.Targets.{Fits}
 use Rattle.judge.proofs.Walk.{AtProcessor, AtKind, AtBase, start-processors, skip-processor, enter-processor, skip-kind, enter-kind, leave-kind, leave-processor, finish, jump, gap, asked-span}
-use Rattle.judge.specs.Asids.{Free, Named}
-use Rattle.judge.specs.Places.{isAsked, exponentIn, entryIn, Covers, Searched, Searches}
-use Rattle.judge.specs.Steps.{workIn, workAt, stepAt, AreSteps, usedBy}
-use Rattle.judge.specs.declared.cover.Cover.{Cover}
-use Rattle.judge.specs.declared.cover.Cover.the-variants.{To, Open}
+use Rattle.coverage.specs.Asids.{Free, Named}
+use Rattle.coverage.specs.Places.{isAsked, exponentIn, entryIn, Covers, Searched, Searches}
+use Rattle.coverage.specs.Steps.{workIn, workAt, stepAt, AreSteps, usedBy}
+use Rattle.coverage.specs.declared.cover.Cover.{Cover}
+use Rattle.coverage.specs.declared.cover.Cover.the-variants.{To, Open}
 
 -- the works of the steps
 unfoldable pub worksOf : State → List ℕ → List Work

@@ -1,6 +1,4 @@
 -- Laws of the search.
-pub mod Loops
-pub mod Covering
 pub mod Walk
 pub mod Targets
 pub mod Deciding

@@ -24,8 +24,8 @@ use Rattle.machine.specs.declared.entry.Entry.{Entry}
 use Rattle.machine.specs.declared.judge.Target.{Target}
 use Rattle.machine.specs.declared.processor.State.{State}
 use Rattle.machine.specs.declared.work.Work.{Work}
-use Rattle.judge.specs.Asids.{Named}
-use Rattle.judge.specs.Places.{isAsked, exponentIn, placed, entryIn, Candidate}
+use Rattle.coverage.specs.Asids.{Named}
+use Rattle.coverage.specs.Places.{isAsked, exponentIn, placed, entryIn, Candidate}
 
 -- the numbers of a target are of the sizes of its fields
 pub record Fits (t : Target) : Type 0 where

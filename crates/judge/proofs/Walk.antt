@@ -26,10 +26,10 @@ use Rattle.machine.specs.declared.entry.Entry.{Entry}
 use Rattle.machine.specs.declared.judge.Judged.the-variants.{Accepted, Gap}
 use Rattle.machine.specs.declared.judge.Target.{Target}
 use Rattle.machine.specs.declared.work.Work.{Work}
-use Rattle.judge.specs.Places.{isAsked, exponentIn, placed, entryIn, Candidate, Earlier, CoversTo, Covers, Searched, Searches}
-use Rattle.judge.specs.Steps.{workAt, takenBy, AreOwned}
-use Rattle.judge.specs.declared.cover.Cover.{Cover}
-use Rattle.judge.specs.declared.cover.Cover.the-variants.{To, Open}
+use Rattle.coverage.specs.Places.{isAsked, exponentIn, placed, entryIn, Candidate, Earlier, CoversTo, Covers, Searched, Searches}
+use Rattle.coverage.specs.Steps.{workAt, takenBy, AreOwned}
+use Rattle.coverage.specs.declared.cover.Cover.{Cover}
+use Rattle.coverage.specs.declared.cover.Cover.the-variants.{To, Open}
 
 -- a work that drops an entry of the target drops the one of the same kind at another base, if it meets that too
 goes-base : (w : Work) (t : Target) (asid p : ℕ) (leaf : Bool) (l : ℤ) (a b : ℕ) → goes w (placed t asid p leaf l a) ≡ true →

@@ -1,11 +1,11 @@
 // The search for an entry of the target that survives every step.
-ghost use Rattle.judge.specs.Places.{Searched, Searches};
-use crate::cover::Cover;
-use crate::cover::cover_of;
-use crate::place::entry_in;
-use crate::place::is_asked;
-use crate::place::leaf_at;
-use crate::place::level_at;
+ghost use Rattle.coverage.specs.Places.{Searched, Searches};
+use coverage::Cover;
+use coverage::cover_of;
+use coverage::entry_in;
+use coverage::is_asked;
+use coverage::leaf_at;
+use coverage::level_at;
 use machine::Judged;
 use machine::Target;
 use machine::Work;

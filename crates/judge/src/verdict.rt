@@ -1,10 +1,10 @@
 // Judge: the checks in their order, and the search.
 ghost use mathlib.Core.Path.{_≡_};
 ghost use Rattle.machine.specs.Judge.{Sound, Verdict};
-use crate::asids::named_asid;
 use crate::search::search;
-use crate::steps::first_other;
-use crate::steps::works_of;
+use coverage::first_other;
+use coverage::named_asid;
+use coverage::works_of;
 use execution::first_refused;
 use machine::Judged;
 use machine::State;

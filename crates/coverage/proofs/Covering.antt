@@ -1,0 +1,81 @@
+-- Which works drop an entry, and which ASIDs they use.
+use Prim.Native.Nat.{ℕ, _+_, _*_, _/_, _^_, _<_, _≤_}
+use mathlib.Core.Bool.{true, false}
+use mathlib.Core.List.{List}
+use mathlib.Core.Path.{_≡_, refl, sym, subst, _∙_}
+use native.Mathlib.Decide.{ℕ-discrete}
+use native.Mathlib.Nat.{div-lt-iff-lt-mul}
+use native.Mathlib.Omega.{arith}
+use lib.Dec.{eqb}
+use lib.Pow.{pow-add, pow-mono, pow-pos}
+use borrow.Author.Tests.{eqb-true}
+use Rattle.laws.proofs.Any.{few}
+use Rattle.laws.proofs.Truth.{and-1, not-so, clash}
+use Rattle.machine.proofs.Going.{going}
+use Rattle.machine.specs.Entry.{hasAsids}
+use Rattle.machine.specs.Goes.{goes}
+use Rattle.machine.specs.Judge.{holdsAsid}
+use Rattle.machine.specs.declared.entry.Entry.{Entry}
+use Rattle.machine.specs.declared.judge.Target.{Target}
+use Rattle.machine.specs.declared.work.Work.{Work}
+use Rattle.coverage.specs.Asids.{Free, Named}
+use Rattle.coverage.specs.Steps.{workAt, usedBy}
+
+-- an entry of another granule stays
+pub other-granule : (w : Work) (e : Entry) → (e .granule ≡ w .granule → ⊥) → goes w e ≡ false
+other-granule w e d = not-so (goes w e) (λ (h : goes w e ≡ true). d (eqb-true (e .granule) (w .granule) (going w e h .granule)))
+
+-- the ASIDs below a are used
+abbrev pub Used : List Work → ℕ → ℕ → Type 0
+Used works n a = (b : ℕ) → b < a → usedBy works n b ≡ true
+
+pub used-start : (works : List Work) (n : ℕ) → Used works n 0
+used-start works n b l = absurd (let z : ⊥ = omega arith in z)
+
+pub used-more : (works : List Work) (n a : ℕ) → Used works n a → usedBy works n a ≡ true → Used works n (a + 1)
+used-more works n a h e b l = go (ℕ-discrete b a)
+  where
+    go : Dec (b ≡ a) → usedBy works n b ≡ true
+    go (yes p) = subst (λ (x : ℕ). usedBy works n x ≡ true) (sym p) e
+    go (no d) = h b (omega arith)
+
+-- a step uses one ASID at most, so n steps use n at most
+pub used-few : (works : List Work) (n a : ℕ) → Used works n a → a ≤ n
+used-few works n a h = few (λ (k b : ℕ). holdsAsid b (workAt works k)) n a one h
+  where
+    one : (k x y : ℕ) → holdsAsid x (workAt works k) ≡ true → holdsAsid y (workAt works k) ≡ true → x ≡ y
+    one k x y p q =
+        let w = workAt works k in
+        sym (eqb-true (w .asid) x (and-1 (w .one) (eqb (w .asid) x) p)) ∙ eqb-true (w .asid) y (and-1 (w .one) (eqb (w .asid) y) q)
+
+pub used-end : (works : List Work) (n a : ℕ) → Used works n a → usedBy works n a ≡ false → Free works n a
+used-end works n a h e = record { free = e; lowest = h }
+
+-- the number of a span of 2^12 bytes or more
+pub number-most : (x k : ℕ) → x < 2 ^ 64 → 12 ≤ k → x / 2 ^ k < 2 ^ 52
+number-most x k l h =
+    let s : 2 ^ 64 ≤ 2 ^ (52 + k) = pow-mono {i = 64} {j = 52 + k} (omega arith) in
+    let e : 2 ^ (52 + k) ≡ 2 ^ 52 * 2 ^ k = pow-add 2 52 k in
+    div-lt-iff-lt-mul {x = x} {y = 2 ^ 52} (pow-pos k) .1 (omega (arith, s, e))
+
+-- the ASID of the entry that is looked for, in each of its cases
+pub named-own : (t : Target) (works : List Work) (n : ℕ) → t .one ≡ true → Named t works n (t .asid)
+named-own t works n h = record {
+  own = λ (i : t .one ≡ true). refl;
+  free = λ (i : t .one ≡ false) (a : hasAsids (t .company) ≡ true). clash h i;
+  none = λ (i : t .one ≡ false) (a : hasAsids (t .company) ≡ false). clash h i;
+}
+
+pub named-free : (t : Target) (works : List Work) (n a : ℕ) → t .one ≡ false → hasAsids (t .company) ≡ true → Free works n a → Named t works n a
+named-free t works n a h k f = record {
+  own = λ (i : t .one ≡ true). clash i h;
+  free = λ (i : t .one ≡ false) (j : hasAsids (t .company) ≡ true). f;
+  none = λ (i : t .one ≡ false) (j : hasAsids (t .company) ≡ false). clash k j;
+}
+
+pub named-none : (t : Target) (works : List Work) (n : ℕ) → t .one ≡ false → hasAsids (t .company) ≡ false → Named t works n 0
+named-none t works n h k = record {
+  own = λ (i : t .one ≡ true). clash i h;
+  free = λ (i : t .one ≡ false) (j : hasAsids (t .company) ≡ true). clash j k;
+  none = λ (i : t .one ≡ false) (j : hasAsids (t .company) ≡ false). refl;
+}

@@ -1,0 +1,15 @@
+// Coverage: the steps of a list as works, the places of a target, and how far a step covers them.
+mod asids;
+mod cover;
+mod place;
+mod steps;
+
+pub use asids::named_asid;
+pub use cover::Cover;
+pub use cover::cover_of;
+pub use place::entry_in;
+pub use place::is_asked;
+pub use place::leaf_at;
+pub use place::level_at;
+pub use steps::first_other;
+pub use steps::works_of;
