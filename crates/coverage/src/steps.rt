@@ -4,13 +4,13 @@ ghost use mathlib.Core.Bool.{true};
 ghost use mathlib.Core.Path.{_≡_};
 ghost use Rattle.machine.specs.Execute.{isList};
 ghost use Rattle.coverage.specs.Steps.{noWork, workIn, AreSteps, FirstOther};
-use entries::same_company;
 use machine::Company;
 use machine::Regime;
 use machine::Resolved;
 use machine::Security;
 use machine::State;
 use machine::Work;
+use tags::same_company;
 use works::resolve;
 
 fn no_work() -> Work

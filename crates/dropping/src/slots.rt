@@ -5,10 +5,10 @@ ghost use lib.ListN.{length};
 ghost use Rattle.laws.specs.Slots.{count, cleared};
 ghost use Rattle.machine.specs.Goes.{keyOf, drops};
 ghost use Rattle.machine.specs.Tag.{companyTag};
-use entries::company_tag;
-use entries::entry_at;
-use entries::is_entry;
 use machine::Work;
+use tags::company_tag;
+use tags::entry_at;
+use tags::is_entry;
 use works::goes;
 
 // Three zeros for each slot that is dropped, and how many there are.

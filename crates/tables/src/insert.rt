@@ -5,11 +5,11 @@ ghost use lib.ListN.{length};
 ghost use Rattle.laws.specs.Slots.{first};
 ghost use Rattle.machine.specs.Table.{isEmpty, insertedOf, insertTable};
 use crate::shape::is_table;
-use entries::is_entry;
 use entries::is_legal;
-use entries::tag_of;
 use machine::Entry;
 use machine::Inserted;
+use tags::is_entry;
+use tags::tag_of;
 
 pub fn insert_entry(table: &mut [u64], entry: Entry, out: u64) -> Inserted
     ensures { λ r. ⌜ r ≡ insertedOf entry (now (table .entry)) ⌝ }

@@ -8,10 +8,7 @@ ghost use Rattle.machine.specs.Entry.{isLegal};
 ghost use Rattle.machine.specs.Table.{stage1Of, holdsAddress, matches, lookedUpOf};
 ghost use Rattle.machine.specs.Tag.{layout, companyAt};
 use crate::shape::is_table;
-use entries::company_tag;
-use entries::entry_at;
 use entries::has_asids;
-use entries::is_entry;
 use entries::span_of;
 use machine::Company;
 use machine::Entry;
@@ -23,6 +20,9 @@ use processor::is_bad;
 use processor::security_in;
 use processor::vmid_in;
 use spans::in_span;
+use tags::company_tag;
+use tags::entry_at;
+use tags::is_entry;
 
 pub fn look_up(table: &[u64], state: State, regime: Regime, asid: u16, address: u64) -> LookedUp
     ensures { λ r. ⌜ r ≡ lookedUpOf state regime asid address (now (table .entry)) ⌝ }

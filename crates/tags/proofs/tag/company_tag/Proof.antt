@@ -1,9 +1,9 @@
--- `entries::tag::company_tag` meets its contract.
+-- `tags::tag::company_tag` meets its contract.
 use native.Mathlib.Omega.{arith}
 use borrow.Author.Needs.{needs}
 use Rattle.machine.specs.Tag.{companyTag}
-use Rattle.entries.proofs.tag.company_tag.Statement.{statement}
-use Rattle.entries.proofs.tag.company_tag.Tie as tie
+use Rattle.tags.proofs.tag.company_tag.Statement.{statement}
+use Rattle.tags.proofs.tag.company_tag.Tie as tie
 
 regime-number-requires : tie.Need-regime-number-requires
 regime-number-requires c κs = search needs

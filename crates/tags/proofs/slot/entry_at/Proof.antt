@@ -1,12 +1,12 @@
--- `entries::slot::entry_at` meets its contract.
+-- `tags::slot::entry_at` meets its contract.
 use mathlib.Core.Path.{refl, _∙_}
 use mir.Syntax.{w8}
 use mir.ValLaws.{toZ-ofZ}
 use borrow.Author.Needs.{needs}
 use Rattle.machine.proofs.Tags.{entry-same}
 use Rattle.machine.specs.Tag.{entryAt}
-use Rattle.entries.proofs.slot.entry_at.Statement.{statement}
-use Rattle.entries.proofs.slot.entry_at.Tie as tie
+use Rattle.tags.proofs.slot.entry_at.Statement.{statement}
+use Rattle.tags.proofs.slot.entry_at.Tie as tie
 
 company-at-requires : tie.Need-company-at-requires
 company-at-requires c κs = search needs

@@ -1,4 +1,4 @@
--- `entries::tag::tag_of` meets its contract.
+-- `tags::tag::tag_of` meets its contract.
 use mathlib.Core.Path.{ap, _∙_}
 use native.Mathlib.Omega.{arith}
 use mir.Syntax.{w8}
@@ -8,8 +8,8 @@ use Rattle.machine.proofs.Spans.{span-tg-most, span-level}
 use Rattle.machine.proofs.Tags.{legal}
 use Rattle.machine.specs.Span.{isLevel, heightOf}
 use Rattle.machine.specs.Tag.{tagOf}
-use Rattle.entries.proofs.tag.tag_of.Statement.{statement}
-use Rattle.entries.proofs.tag.tag_of.Tie as tie
+use Rattle.tags.proofs.tag.tag_of.Statement.{statement}
+use Rattle.tags.proofs.tag.tag_of.Tie as tie
 
 company-tag-requires : tie.Need-company-tag-requires
 company-tag-requires c κs = search needs

@@ -1,10 +1,10 @@
 // What a slot's base and tag read as.
 ghost use mathlib.Core.Path.{_≡_};
 ghost use Rattle.machine.specs.Tag.{companyAt, entryAt, isEntry};
-use crate::legal::is_legal;
 use crate::number::level_at;
 use crate::number::regime_at;
 use crate::number::security_at;
+use entries::is_legal;
 use machine::Company;
 use machine::Entry;
 

@@ -1,4 +1,4 @@
--- `entries::number::level_at` meets its contract.
+-- `tags::number::level_at` meets its contract.
 use Prim.Native.Nat.{ℕ, _/_, _^_, _<_}
 use mathlib.Core.Path.{_≡_, refl}
 use native.Mathlib.Nat.{mod-lt}
@@ -10,8 +10,8 @@ use mir.Val.{SFits, toZ, ofZ}
 use borrow.Author.Needs.{sfits-of, needs}
 use Rattle.laws.specs.Bits.{bits}
 use Rattle.machine.proofs.Tags.{AtHeights, by-height}
-use Rattle.entries.proofs.number.level_at.Statement.{statement}
-use Rattle.entries.proofs.number.level_at.Tie as tie
+use Rattle.tags.proofs.number.level_at.Statement.{statement}
+use Rattle.tags.proofs.number.level_at.Tie as tie
 
 -- three bits are below 8
 three-bits : (tag : ℕ) → bits 48 46 tag < 8

@@ -1,11 +1,11 @@
--- `entries::tag::same_company` meets its contract.
+-- `tags::tag::same_company` meets its contract.
 use mathlib.Core.Path.{sym, ap₂, _∙_}
 use native.Mathlib.Omega.{arith}
 use lib.Dec.{eqb}
 use borrow.Author.Needs.{needs}
 use Rattle.machine.proofs.Tags.{company-tags}
-use Rattle.entries.proofs.tag.same_company.Statement.{statement}
-use Rattle.entries.proofs.tag.same_company.Tie as tie
+use Rattle.tags.proofs.tag.same_company.Statement.{statement}
+use Rattle.tags.proofs.tag.same_company.Tie as tie
 
 company-tag-requires : tie.Need-company-tag-requires
 company-tag-requires c κs = search needs

@@ -1,8 +1,8 @@
--- `entries::slot::company_at` meets its contract.
+-- `tags::slot::company_at` meets its contract.
 use borrow.Author.Needs.{needs}
 use Rattle.machine.specs.Tag.{companyAt}
-use Rattle.entries.proofs.slot.company_at.Statement.{statement}
-use Rattle.entries.proofs.slot.company_at.Tie as tie
+use Rattle.tags.proofs.slot.company_at.Statement.{statement}
+use Rattle.tags.proofs.slot.company_at.Tie as tie
 
 regime-at-requires : tie.Need-regime-at-requires
 regime-at-requires c κs = search needs

@@ -1,11 +1,11 @@
--- `entries::number::regime_at` meets its contract.
+-- `tags::number::regime_at` meets its contract.
 use Prim.Native.Nat.{_≤_}
 use mathlib.Core.Path.{sym}
 use native.Mathlib.Omega.{arith}
 use borrow.Author.Needs.{needs}
 use Rattle.machine.proofs.Tags.{regime-last}
-use Rattle.entries.proofs.number.regime_at.Statement.{statement}
-use Rattle.entries.proofs.number.regime_at.Tie as tie
+use Rattle.tags.proofs.number.regime_at.Statement.{statement}
+use Rattle.tags.proofs.number.regime_at.Tie as tie
 
 returns : tie.Need-returns
 returns c = search needs

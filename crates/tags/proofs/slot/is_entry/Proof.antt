@@ -1,12 +1,12 @@
--- `entries::slot::is_entry` meets its contract.
+-- `tags::slot::is_entry` meets its contract.
 use mathlib.Core.Bool.{Bool, _&&_}
 use mathlib.Core.Path.{ap₂, sym, ap, _∙_}
 use borrow.Author.Needs.{needs}
 use Rattle.machine.proofs.Tags.{tag-whole}
 use Rattle.machine.specs.Entry.{isLegal}
 use Rattle.machine.specs.Tag.{isEntry}
-use Rattle.entries.proofs.slot.is_entry.Statement.{statement}
-use Rattle.entries.proofs.slot.is_entry.Tie as tie
+use Rattle.tags.proofs.slot.is_entry.Statement.{statement}
+use Rattle.tags.proofs.slot.is_entry.Tie as tie
 
 entry-at-requires : tie.Need-entry-at-requires
 entry-at-requires c κs = search needs

@@ -1,0 +1,10 @@
+// Tags: a slot's base and tag written from an entry, and read as one.
+mod number;
+mod slot;
+mod tag;
+
+pub use slot::entry_at;
+pub use slot::is_entry;
+pub use tag::company_tag;
+pub use tag::same_company;
+pub use tag::tag_of;
