@@ -1,0 +1,38 @@
+-- `compare::on_listing::list_some` meets its contract.
+use Prim.Native.Nat.{_-_, _^_, _≤_, _<_}
+use mathlib.Core.Path.{_≡_, refl, sym}
+use native.Mathlib.Omega.{arith}
+use lib.ListN.{length}
+use lib.Seq.{length-take-le}
+use borrow.Author.Needs.{needs}
+use Rattle.compare.proofs.on_listing.list_some.Statement.{statement}
+use Rattle.compare.proofs.on_listing.list_some.Tie as tie
+
+slice-relend-prefix-list-code : tie.Need-slice-relend-prefix-list-code
+slice-relend-prefix-list-code c = search needs
+
+slice-aggregate-list-code : tie.Need-slice-aggregate-list-code
+slice-aggregate-list-code c = sym (length-take-le _ _ (c .before .if1 .taken))
+
+list-code-requires : tie.Need-list-code-requires
+list-code-requires c κs = search needs
+
+same-length : tie.Need-same-length
+same-length c = search needs
+
+returns : tie.Need-returns
+returns c = search needs
+
+returns-2 : tie.Need-returns-2
+returns-2 c = search needs
+
+pub list-some-spec : {M : Type 1} → statement M
+list-some-spec =
+    tie.close
+    (tie.spec
+    slice-relend-prefix-list-code
+    slice-aggregate-list-code
+    list-code-requires
+    same-length
+    returns
+    returns-2)

@@ -1,0 +1,55 @@
+-- `second_tables::judging::first_outside` meets its contract.
+use Prim.Native.Nat.{_-_, _≤_}
+use native.Mathlib.Omega.{arith}
+use borrow.Author.Needs.{needs}
+use Rattle.second_tables.proofs.judging.first_outside.Statement.{statement}
+use Rattle.second_tables.proofs.judging.first_outside.Tie as tie
+
+abbrev Inv-loop : tie.InvT-loop
+Inv-loop state list company place₀ place = (place ≤ 16)
+
+abbrev μ-loop : tie.MeasureT-loop
+μ-loop state list company place₀ place = 16 - place
+
+loop-holds : tie.Need-loop-holds Inv-loop μ-loop
+loop-holds c = omega arith
+
+returns : tie.Need-returns Inv-loop μ-loop
+returns c = search needs
+
+step-at-requires : tie.Need-step-at-requires Inv-loop μ-loop
+step-at-requires c κs = search needs
+
+is-of-company-requires : tie.Need-is-of-company-requires Inv-loop μ-loop
+is-of-company-requires c κs = search needs
+
+returns-2 : tie.Need-returns-2 Inv-loop μ-loop
+returns-2 c = search needs
+
+add-place : tie.Need-add-place Inv-loop μ-loop
+add-place c = search needs
+
+loop-less : tie.Need-loop-less Inv-loop μ-loop
+loop-less c = search needs
+
+loop-again : tie.Need-loop-again Inv-loop μ-loop
+loop-again c = omega arith
+
+returns-3 : tie.Need-returns-3 Inv-loop μ-loop
+returns-3 c = search needs
+
+pub first-outside-spec : {M : Type 1} → statement M
+first-outside-spec =
+    tie.close
+    (tie.spec
+    Inv-loop
+    μ-loop
+    loop-holds
+    returns
+    step-at-requires
+    is-of-company-requires
+    returns-2
+    add-place
+    loop-less
+    loop-again
+    returns-3)

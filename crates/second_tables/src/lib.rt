@@ -1,0 +1,33 @@
+// The second model's operands, entries, tables, execution and judging, read off the requirements a second time, to be compared.
+mod answer;
+mod asids;
+mod bases;
+mod bits;
+mod entry;
+mod execution;
+mod gap;
+mod going;
+mod judging;
+mod numbers;
+mod operand;
+mod range;
+mod span;
+mod step;
+mod survivors;
+mod table;
+mod tag;
+mod target;
+
+pub use answer::Answer;
+pub use answer::Verdict;
+pub use execution::execute;
+pub use execution::run;
+pub use judging::judge;
+pub use operand::Fields;
+pub use operand::Words;
+pub use operand::read;
+pub use operand::write;
+pub use table::insert;
+pub use table::look_up;
+pub use tag::Slot;
+pub use tag::slot_at;
