@@ -66,12 +66,17 @@ fn steps_of(kind: u64, seed: u64) -> u64 {
     }
 }
 
-// Step k of the plan.
+// Step k of the plan; half of the chains run downwards.
 pub fn step_at(state: State, plan: Plan, k: u64, seed: u64) -> Step {
+    let place = if flip(seed, 102) {
+        std::num::wrapping_sub_u64(std::num::wrapping_sub_u64(plan.steps, 1), k)
+    } else {
+        k
+    };
     let sound = if plan.kind == 2 {
         step_for(state, draw(seed, k))
     } else {
-        steady_step(state, plan.kind == 1, k, draw(seed, 100))
+        steady_step(state, plan.kind == 1, place, draw(seed, 100))
     };
     if k == plan.spoiled {
         spoiled(sound, draw(seed, 101))

@@ -42,8 +42,8 @@ fn main() {
     let regimes = told(b"regime", on_state::regimes(), decided);
     let read = told(b"read_operand", on_operands::reads(), regimes);
     let written = told(b"write_operand", on_operands::writes(), read);
-    let slots = told(b"entry_at", on_slots::slots(), written);
-    let inserted = told(b"insert_entry", on_insert::inserts(), slots);
+    let slots = told(b"slot", on_slots::slots(), written);
+    let inserted = told(b"insert", on_insert::inserts(), slots);
     let found = told(b"look_up", on_lookup::lookups(), inserted);
     let executed = told(b"execute", on_execute::executions(), found);
     let ran = told(b"run", on_run::runs(), executed);

@@ -72,7 +72,7 @@ fn execute_seen(one: &mut [u64], two: &mut [u64], words: usize, state: State, st
 
 fn execute_ours(table: &mut [u64], words: usize, state: State, step: Step) -> Reply {
     if words <= table.len() {
-        of_executed(execution::execute(&mut table[..words], state, step.word, step.xt, step.xt2))
+        of_executed(calls::execute(&mut table[..words], state, step.word, step.xt, step.xt2))
     } else {
         plain(15, 0)
     }

@@ -85,7 +85,7 @@ fn insert_seen(one: &mut [u64], two: &mut [u64], words: usize, entry: Entry, out
 
 fn insert_ours(table: &mut [u64], words: usize, entry: Entry, out: u64) -> Reply {
     if words <= table.len() {
-        of_inserted(tables::insert_entry(&mut table[..words], entry, out))
+        of_inserted(calls::insert(&mut table[..words], entry, out))
     } else {
         plain(15, 0)
     }

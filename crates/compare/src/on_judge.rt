@@ -64,7 +64,7 @@ fn judge_seen(state: State, target: Target, list: &[u64], lent: usize) -> Seen {
 }
 
 fn judge_both(state: State, target: Target, list: &[u64]) -> Seen {
-    let ours = judge::judge(state, target, list);
+    let ours = calls::judge(state, target, list);
     let theirs = second_tables::judge(state, target, list);
     match ours {
         Judged::Accepted => plain(0, 0, theirs),

@@ -99,7 +99,7 @@ struct Place {
 
 fn list_some(code: &[u8], out: &mut [u8], room: usize) -> Place {
     if room <= out.len() {
-        let listed = listing::list_code(code, 0, &mut out[..room]);
+        let listed = calls::list(code, 0, &mut out[..room]);
         Place {
             used: listed.used,
             written: listed.written,
@@ -124,7 +124,7 @@ fn list_rest(code: &[u8], place: Place, out: &mut [u8]) -> Place {
 fn list_from(code: &[u8], place: Place, out: &mut [u8]) -> Place {
     let at = place.written;
     if at <= out.len() {
-        let listed = listing::list_code(code, place.used as u64, &mut out[at..]);
+        let listed = calls::list(code, place.used as u64, &mut out[at..]);
         Place {
             used: std::num::wrapping_add_usize(place.used, listed.used),
             written: std::num::wrapping_add_usize(at, listed.written),
@@ -138,7 +138,7 @@ fn list_end(code: &[u8], place: Place, out: &mut [u8]) -> usize {
     let at = place.written;
     if at <= out.len() {
         let left = std::num::wrapping_sub_usize(code.len(), place.used);
-        std::num::wrapping_add_usize(at, listing::list_tail(left, &mut out[at..]))
+        std::num::wrapping_add_usize(at, calls::tail(left, &mut out[at..]))
     } else {
         at
     }

@@ -132,7 +132,7 @@ fn lookup_ours(table: &[u64], words: usize, asked: Asked) -> Reply {
     let state = asked.state;
     let regime = asked.regime;
     if words <= table.len() {
-        of_looked_up(tables::look_up(&table[..words], state, regime, asked.asid, asked.address))
+        of_looked_up(calls::look_up(&table[..words], state, regime, asked.asid, asked.address))
     } else {
         plain(15, 0)
     }

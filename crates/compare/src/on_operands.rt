@@ -65,7 +65,7 @@ pub fn reads() -> Tally {
 }
 
 fn read_seen(told: Told, step: Step) -> Seen {
-    let ours = operands::read_operand(told, step.xt, step.xt2);
+    let ours = calls::read_operand(told, step.xt, step.xt2);
     let theirs = second_tables::read(told, step.xt, step.xt2);
     let second = Operand {
         asid: theirs.asid,
@@ -133,7 +133,7 @@ pub fn writes() -> Tally {
 
 // Fields that can be written, since they were read.
 fn fields_of(told: Told, step: Step) -> Operand {
-    let read = operands::read_operand(told, step.xt, step.xt2);
+    let read = calls::read_operand(told, step.xt, step.xt2);
     match read {
         OperandRead::Fields(fields) => fields,
         OperandRead::NoGranule => nothing(),
@@ -201,7 +201,7 @@ fn changed_base(o: Operand, which: u64, any: u64) -> u64 {
 }
 
 fn write_seen(told: Told, fields: Operand) -> Seen {
-    let ours = operands::write_operand(told, fields);
+    let ours = calls::write_operand(told, fields);
     let theirs = second_tables::write(told, fields);
     match ours {
         OperandWritten::Words(xt, xt2) => Seen {

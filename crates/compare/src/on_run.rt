@@ -100,7 +100,7 @@ fn run_both(one: &mut [u64], two: &mut [u64], words: usize, state: State, list: 
 
 fn run_ours(table: &mut [u64], words: usize, state: State, list: &[u64]) -> Reply {
     if words <= table.len() {
-        of_ran(execution::run(&mut table[..words], state, list))
+        of_ran(calls::run(&mut table[..words], state, list))
     } else {
         plain(15, 0)
     }

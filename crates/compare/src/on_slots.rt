@@ -35,7 +35,7 @@ fn slot_at(seed: u64) -> SlotWords {
     }
 }
 
-// An empty slot counts as no answer but 9: there is nothing to read.
+// A slot that reads as empty counts as answer 9.
 fn slot_seen(slot: SlotWords) -> Seen {
     let taken = tags::is_entry(slot.base, slot.tag);
     let theirs = second_tables::slot_at(slot.base, slot.tag);

@@ -18,7 +18,6 @@ use machine::Built;
 use machine::Decoded;
 use machine::Operation;
 use second_words::Named;
-use words::OperationWord;
 
 pub fn decodes() -> Tally {
     let mut tally = none();
@@ -75,7 +74,7 @@ fn any_operation(seed: u64) -> Operation {
 }
 
 fn decode_seen(word: u64) -> Seen {
-    let ours = OperationWord { bits: word }.read();
+    let ours = calls::decode(word);
     let theirs = second_words::decode(word);
     match ours {
         Decoded::Known(op) => Seen {
@@ -120,7 +119,7 @@ pub fn builds() -> Tally {
 fn build_seen(op: Operation) -> Seen {
     let name = op.name;
     let share = op.share;
-    let ours = OperationWord::build(op);
+    let ours = calls::build(op);
     let theirs = second_words::encode(Named {
         known: true,
         name: name_number(name),

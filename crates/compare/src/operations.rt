@@ -9,7 +9,6 @@ use crate::numbers::share_at;
 use machine::Built;
 use machine::Operation;
 use machine::State;
-use words::OperationWord;
 
 pub fn operation_for(state: State, seed: u64) -> Operation {
     Operation {
@@ -66,7 +65,7 @@ fn register_for(seed: u64) -> u8 {
 }
 
 pub fn word_of(op: Operation) -> u64 {
-    let built = OperationWord::build(op);
+    let built = calls::build(op);
     match built {
         Built::Word(word) => word,
         Built::Unfit => 0,

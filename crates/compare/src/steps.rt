@@ -82,6 +82,15 @@ pub fn aligned(field: u64, unit: u64, k: u64) -> u64 {
     }
 }
 
+// Half of 2^k bytes off a multiple of it.
+fn half_off(multiple: u64, unit: u64, k: u64) -> u64 {
+    if unit < k {
+        multiple ^ power(k - unit - 1)
+    } else {
+        multiple
+    }
+}
+
 pub fn parts_for(state: State, op: Operation, seed: u64) -> Parts {
     let tg = if once_in(seed, 0, 30) {
         0
@@ -111,6 +120,12 @@ pub fn parts_for(state: State, op: Operation, seed: u64) -> Parts {
             field
         } else if kind == 1 {
             std::num::wrapping_add_u64(multiple, 1)
+        } else if kind == 2 {
+            half_off(
+                multiple,
+                unit,
+                exponent(op.tlbip, tg, std::num::wrapping_sub_u64(3, ttl)),
+            )
         } else {
             multiple
         },

@@ -19,15 +19,20 @@ use machine::Work;
 // What the first and the last step cover, or a part of it; mostly on one of the processors that are reached.
 pub fn target_for(one: Work, two: Work, seed: u64) -> Target {
     let company = one.company;
-    let last = if two.last < one.first {
+    let first = if two.first < one.first {
+        two.first
+    } else {
+        one.first
+    };
+    let last = if two.last < one.last {
         one.last
     } else {
         two.last
     };
     let from = if once_in(seed, 0, 3) {
-        address_in(one.first, last, draw(seed, 1))
+        address_in(first, last, draw(seed, 1))
     } else {
-        one.first
+        first
     };
     let to = if once_in(seed, 7, 4) {
         address_in(from, last, draw(seed, 8))

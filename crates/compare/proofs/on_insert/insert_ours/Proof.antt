@@ -8,14 +8,14 @@ use borrow.Author.Needs.{needs}
 use Rattle.compare.proofs.on_insert.insert_ours.Statement.{statement}
 use Rattle.compare.proofs.on_insert.insert_ours.Tie as tie
 
-slice-relend-prefix-insert-entry : tie.Need-slice-relend-prefix-insert-entry
-slice-relend-prefix-insert-entry c = search needs
+slice-relend-prefix-insert : tie.Need-slice-relend-prefix-insert
+slice-relend-prefix-insert c = search needs
 
-slice-aggregate-insert-entry : tie.Need-slice-aggregate-insert-entry
-slice-aggregate-insert-entry c = sym (length-take-le _ _ (c .before .if1 .taken))
+slice-aggregate-insert : tie.Need-slice-aggregate-insert
+slice-aggregate-insert c = sym (length-take-le _ _ (c .before .if1 .taken))
 
-insert-entry-requires : tie.Need-insert-entry-requires
-insert-entry-requires c κs = search needs
+insert-requires : tie.Need-insert-requires
+insert-requires c κs = search needs
 
 of-inserted-requires : tie.Need-of-inserted-requires
 of-inserted-requires c κs = search needs
@@ -36,9 +36,9 @@ pub insert-ours-spec : {M : Type 1} → statement M
 insert-ours-spec =
     tie.close
     (tie.spec
-    slice-relend-prefix-insert-entry
-    slice-aggregate-insert-entry
-    insert-entry-requires
+    slice-relend-prefix-insert
+    slice-aggregate-insert
+    insert-requires
     of-inserted-requires
     plain-requires
     same-length

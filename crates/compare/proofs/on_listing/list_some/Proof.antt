@@ -8,14 +8,14 @@ use borrow.Author.Needs.{needs}
 use Rattle.compare.proofs.on_listing.list_some.Statement.{statement}
 use Rattle.compare.proofs.on_listing.list_some.Tie as tie
 
-slice-relend-prefix-list-code : tie.Need-slice-relend-prefix-list-code
-slice-relend-prefix-list-code c = search needs
+slice-relend-prefix-list : tie.Need-slice-relend-prefix-list
+slice-relend-prefix-list c = search needs
 
-slice-aggregate-list-code : tie.Need-slice-aggregate-list-code
-slice-aggregate-list-code c = sym (length-take-le _ _ (c .before .if1 .taken))
+slice-aggregate-list : tie.Need-slice-aggregate-list
+slice-aggregate-list c = sym (length-take-le _ _ (c .before .if1 .taken))
 
-list-code-requires : tie.Need-list-code-requires
-list-code-requires c κs = search needs
+list-requires : tie.Need-list-requires
+list-requires c κs = search needs
 
 same-length : tie.Need-same-length
 same-length c = search needs
@@ -30,9 +30,9 @@ pub list-some-spec : {M : Type 1} → statement M
 list-some-spec =
     tie.close
     (tie.spec
-    slice-relend-prefix-list-code
-    slice-aggregate-list-code
-    list-code-requires
+    slice-relend-prefix-list
+    slice-aggregate-list
+    list-requires
     same-length
     returns
     returns-2)
