@@ -1,4 +1,4 @@
-// Runs the proved rooms and the second model on the same inputs, and tells of each call how many inputs it had, which answers they got, and how
+// Runs the public calls and the second model on the same inputs, and tells of each call how many inputs it had, which answers they got, and how
 // many of them the two answer differently.
 mod draw;
 mod exponents;

