@@ -3,10 +3,6 @@ ghost use mathlib.Core.Path.{_≡_};
 ghost use mathlib.Core.Bool.{cond, _&&_};
 ghost use Rattle.machine.specs.State.{e2hOf, tgeOf};
 ghost use Rattle.machine.specs.Access.{actsNxs, accessE1, accessNv, accessE2, accessStage2, accessE3, accessOf};
-use crate::scope::scope_of;
-use crate::trap::is_barred;
-use crate::trap::is_trapped;
-use crate::trap::trap;
 use machine::Access;
 use machine::Family;
 use machine::Operation;
@@ -14,6 +10,10 @@ use machine::Regime;
 use machine::State;
 use processor::el2_enabled;
 use processor::hcrx_live;
+use scopes::scope_of;
+use traps::is_barred;
+use traps::is_trapped;
+use traps::trap;
 use words::family_of;
 
 pub fn decide(state: State, op: Operation) -> Access

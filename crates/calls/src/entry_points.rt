@@ -48,7 +48,7 @@ pub fn write_operand(told: Told, fields: Operand) -> OperandWritten
 pub fn insert(table: &mut [u64], entry: Entry, out: u64) -> Inserted
     ensures { λ r. ⌜ Inserts entry out (now (table .entry)) r (now (table .exit)) ⌝ }
 {
-    tables::insert_entry(table, entry, out)
+    insertion::insert_entry(table, entry, out)
 }
 
 pub fn look_up(table: &[u64], state: State, regime: Regime, asid: u16, address: u64) -> LookedUp
@@ -67,7 +67,7 @@ pub fn run(table: &mut [u64], state: State, list: &[u64]) -> Ran
     ensures { λ r. ⌜ Runs state (now (list .entry)) (now (table .entry)) r (now (table .exit)) ⌝ }
     ensures { λ r. ⌜ now (list .exit) ≡ now (list .entry) ⌝ }
 {
-    execution::run(table, state, list)
+    running::run(table, state, list)
 }
 
 pub fn judge(state: State, target: Target, list: &[u64]) -> Judged

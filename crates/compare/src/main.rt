@@ -1,12 +1,5 @@
 // Runs the public calls and the second model on the same inputs, and tells of each call how many inputs it had, which answers they got, and how
 // many of them the two answer differently.
-mod draw;
-mod exponents;
-mod fill;
-mod going;
-mod legal;
-mod lists;
-mod numbers;
 mod on_execute;
 mod on_insert;
 mod on_judge;
@@ -17,16 +10,9 @@ mod on_run;
 mod on_slots;
 mod on_state;
 mod on_words;
-mod operations;
 mod replies;
-mod slots;
-mod states;
-mod steps;
 mod summary;
 mod tally;
-mod targets;
-mod turns;
-mod works_made;
 
 use summary::line;
 use summary::totals;

@@ -1,24 +1,24 @@
 // Execute, on tables aimed at the operation.
-use crate::draw::below;
-use crate::draw::draw;
-use crate::fill::fill;
-use crate::fill::same_words;
-use crate::fill::words_of;
 use crate::replies::Reply;
 use crate::replies::of_answer;
 use crate::replies::of_executed;
 use crate::replies::plain;
 use crate::replies::seen;
-use crate::states::fair_state;
-use crate::states::good_state;
-use crate::steps::Step;
-use crate::steps::step_for;
 use crate::tally::Seen;
 use crate::tally::Tally;
 use crate::tally::none;
 use crate::tally::with;
-use crate::works_made::any_work;
-use crate::works_made::work_of;
+use inputs::Step;
+use inputs::any_work;
+use inputs::below;
+use inputs::draw;
+use inputs::fair_state;
+use inputs::fill;
+use inputs::good_state;
+use inputs::same_words;
+use inputs::step_for;
+use inputs::words_of;
+use inputs::work_of;
 use machine::State;
 
 pub fn executions() -> Tally {

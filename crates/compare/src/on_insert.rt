@@ -1,12 +1,4 @@
 // Insert, into tables that are full or have slots that read as empty.
-use crate::draw::below;
-use crate::draw::draw;
-use crate::draw::once_in;
-use crate::fill::fill_taken;
-use crate::fill::same_words;
-use crate::fill::words_of;
-use crate::legal::broken;
-use crate::legal::legal_entry;
 use crate::replies::Reply;
 use crate::replies::of_answer;
 use crate::replies::of_inserted;
@@ -16,7 +8,15 @@ use crate::tally::Seen;
 use crate::tally::Tally;
 use crate::tally::none;
 use crate::tally::with;
-use crate::works_made::any_work;
+use inputs::any_work;
+use inputs::below;
+use inputs::broken;
+use inputs::draw;
+use inputs::fill_taken;
+use inputs::legal_entry;
+use inputs::once_in;
+use inputs::same_words;
+use inputs::words_of;
 use machine::Entry;
 
 pub fn inserts() -> Tally {

@@ -1,17 +1,17 @@
 // The listing of small pieces of code.
-use crate::draw::below;
-use crate::draw::draw;
-use crate::draw::flip;
-use crate::draw::once_in;
-use crate::draw::small;
-use crate::numbers::name_at;
-use crate::numbers::share_at;
-use crate::operations::given;
-use crate::operations::word_of;
 use crate::tally::Seen;
 use crate::tally::Tally;
 use crate::tally::none;
 use crate::tally::with;
+use inputs::below;
+use inputs::draw;
+use inputs::flip;
+use inputs::given;
+use inputs::name_at;
+use inputs::once_in;
+use inputs::share_at;
+use inputs::small;
+use inputs::word_of;
 use machine::Operation;
 
 pub fn listings() -> Tally {

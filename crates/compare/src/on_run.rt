@@ -1,24 +1,24 @@
 // Run, on tables aimed at two steps of the list.
-use crate::draw::below;
-use crate::draw::draw;
-use crate::fill::fill;
-use crate::fill::same_words;
-use crate::fill::words_of;
-use crate::lists::plan_of;
-use crate::lists::put_list;
-use crate::lists::step_at;
 use crate::replies::Reply;
 use crate::replies::of_answer;
 use crate::replies::of_ran;
 use crate::replies::plain;
 use crate::replies::seen;
-use crate::states::fair_state;
-use crate::states::good_state;
 use crate::tally::Seen;
 use crate::tally::Tally;
 use crate::tally::none;
 use crate::tally::with;
-use crate::works_made::work_of;
+use inputs::below;
+use inputs::draw;
+use inputs::fair_state;
+use inputs::fill;
+use inputs::good_state;
+use inputs::plan_of;
+use inputs::put_list;
+use inputs::same_words;
+use inputs::step_at;
+use inputs::words_of;
+use inputs::work_of;
 use machine::State;
 
 pub fn runs() -> Tally {

@@ -1,17 +1,17 @@
 // What a slot reads as.
-use crate::draw::below;
-use crate::draw::draw;
-use crate::legal::broken;
-use crate::legal::legal_entry;
-use crate::numbers::regime_number;
-use crate::numbers::security_number;
-use crate::slots::SlotWords;
-use crate::slots::senseless;
-use crate::slots::slot_of;
 use crate::tally::Seen;
 use crate::tally::Tally;
 use crate::tally::none;
 use crate::tally::with;
+use inputs::SlotWords;
+use inputs::below;
+use inputs::broken;
+use inputs::draw;
+use inputs::legal_entry;
+use inputs::regime_number;
+use inputs::security_number;
+use inputs::senseless;
+use inputs::slot_of;
 use machine::Company;
 use machine::Entry;
 

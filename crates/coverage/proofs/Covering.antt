@@ -19,7 +19,7 @@ use Rattle.machine.specs.declared.entry.Entry.{Entry}
 use Rattle.machine.specs.declared.judge.Target.{Target}
 use Rattle.machine.specs.declared.work.Work.{Work}
 use Rattle.coverage.specs.Asids.{Free, Named}
-use Rattle.coverage.specs.Steps.{workAt, usedBy}
+use Rattle.steps.specs.Steps.{workAt, usedBy}
 
 -- an entry of another granule stays
 pub other-granule : (w : Work) (e : Entry) → (e .granule ≡ w .granule → ⊥) → goes w e ≡ false

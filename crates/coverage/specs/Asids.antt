@@ -6,7 +6,7 @@ use mathlib.Core.Path.{_≡_}
 use Rattle.machine.specs.Entry.{hasAsids}
 use Rattle.machine.specs.declared.judge.Target.{Target}
 use Rattle.machine.specs.declared.work.Work.{Work}
-use Rattle.coverage.specs.Steps.{usedBy}
+use Rattle.steps.specs.Steps.{usedBy}
 
 -- the lowest that no step uses
 pub record Free (works : List Work) (n a : ℕ) : Type 0 where

@@ -12,7 +12,7 @@ use Rattle.machine.specs.declared.judge.Judged.{Judged}
 use Rattle.machine.specs.declared.judge.Judged.the-variants as judged
 use Rattle.machine.specs.declared.judge.Target.{Target}
 use Rattle.machine.specs.declared.work.Work.{Work}
-use Rattle.coverage.specs.Steps.{workAt, takenBy}
+use Rattle.steps.specs.Steps.{workAt, takenBy}
 use Rattle.coverage.specs.declared.cover.Cover.{Cover}
 use Rattle.coverage.specs.declared.cover.Cover.the-variants.{To, Open}
 use Rattle.machine.specs.Entry.{isLegal}

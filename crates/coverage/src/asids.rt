@@ -1,7 +1,7 @@
 // The ASID of the entry that a search looks for.
 ghost use Prim.Native.Nat.{_≤_};
 ghost use mathlib.Core.Path.{_≡_};
-ghost use Rattle.coverage.specs.Steps.{usedBy};
+ghost use Rattle.steps.specs.Steps.{usedBy};
 ghost use Rattle.coverage.specs.Asids.{Free, Named};
 use entries::has_asids;
 use machine::Target;

@@ -4,7 +4,7 @@ ghost use mathlib.Core.Bool.{true};
 ghost use mathlib.Core.Path.{_≡_};
 ghost use Rattle.machine.specs.Entry.{isLegal};
 ghost use Rattle.machine.specs.Goes.{isOwned, goes};
-ghost use Rattle.coverage.specs.Steps.{AreOwned};
+ghost use Rattle.steps.specs.Steps.{AreOwned};
 ghost use Rattle.coverage.specs.Places.{Covers};
 use machine::Entry;
 use machine::Work;

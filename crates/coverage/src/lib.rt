@@ -1,8 +1,7 @@
-// Coverage: the steps of a list as works, the places of a target, and how far a step covers them.
+// Coverage: the places of a target, and how far a step covers them.
 mod asids;
 mod cover;
 mod place;
-mod steps;
 
 pub use asids::named_asid;
 pub use cover::Cover;
@@ -11,5 +10,3 @@ pub use place::entry_in;
 pub use place::is_asked;
 pub use place::leaf_at;
 pub use place::level_at;
-pub use steps::first_other;
-pub use steps::works_of;

@@ -1,8 +1,5 @@
-// Execute and run: what operations do to a table.
-mod refusal;
-mod running;
+// Execute: what one operation does to a table.
 mod single;
 
-pub use refusal::first_refused;
-pub use running::run;
+pub use single::carry_out;
 pub use single::execute;

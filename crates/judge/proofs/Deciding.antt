@@ -36,7 +36,7 @@ use Rattle.machine.specs.declared.work.Work.{Work}
 use Rattle.judge.proofs.Targets.{Fits, Rules, target-keeps, candidate-aimed, hard, aimed-placed, none-all}
 use Rattle.coverage.specs.Asids.{Named}
 use Rattle.coverage.specs.Places.{exponentIn, entryIn, Candidate, Earlier, First, Searched, Searches}
-use Rattle.coverage.specs.Steps.{workIn, workAt, stepAt, AreSteps, FirstOther, takenBy, usedBy}
+use Rattle.steps.specs.Steps.{workIn, workAt, stepAt, AreSteps, FirstOther, takenBy, usedBy}
 
 -- where no step is refused, the works are those of the steps
 module _ (st : State) (steps : List ℕ) (works : List Work) (are : AreSteps st steps works) (done : some (refuses st) steps ≡ false) where

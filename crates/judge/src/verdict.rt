@@ -2,14 +2,14 @@
 ghost use mathlib.Core.Path.{_≡_};
 ghost use Rattle.machine.specs.Judge.{Sound, Verdict};
 use crate::search::search;
-use coverage::first_other;
 use coverage::named_asid;
-use coverage::works_of;
-use execution::first_refused;
 use machine::Judged;
 use machine::State;
 use machine::Target;
 use processor::is_bad;
+use running::first_refused;
+use steps::first_other;
+use steps::works_of;
 use tables::is_list;
 use targets::is_target;
 

@@ -7,7 +7,7 @@ use borrow.Author.Needs.{needs}
 use Rattle.laws.proofs.Any.{any-start, any-more, some-any}
 use Rattle.machine.specs.Judge.{holdsAsid}
 use Rattle.coverage.proofs.asids.is_used.Statement.{statement}
-use Rattle.coverage.specs.Steps.{usedBy, workAt}
+use Rattle.steps.specs.Steps.{usedBy, workAt}
 use Rattle.coverage.proofs.asids.is_used.Tie as tie
 
 abbrev Inv-loop : tie.InvT-loop

@@ -8,7 +8,7 @@ use Rattle.laws.proofs.Any.{any-start, any-more}
 use Rattle.machine.specs.Goes.{goes}
 use Rattle.coverage.proofs.Covering.{number-most}
 use Rattle.coverage.proofs.cover.cover_of.Statement.{statement}
-use Rattle.coverage.specs.Steps.{workAt, takenBy}
+use Rattle.steps.specs.Steps.{workAt, takenBy}
 use Rattle.coverage.proofs.cover.cover_of.Tie as tie
 
 abbrev Inv-loop : tie.InvT-loop

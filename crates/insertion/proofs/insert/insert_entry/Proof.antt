@@ -1,0 +1,119 @@
+-- `insertion::insert::insert_entry` meets its contract.
+use Prim.Native.Nat.{ℕ}
+use mathlib.Core.Path.{sym, ap, _∙_}
+use native.Mathlib.Omega.{arith}
+use lib.ListN.{length-set}
+use borrow.Author.Needs.{needs}
+use borrow.Author.Tests.{not-true, not-false}
+use Rattle.laws.specs.Slots.{put}
+use Rattle.machine.proofs.Inserting.{table-shape, insert-13, insert-8, insert-9, insert-0}
+use Rattle.insertion.proofs.insert.insert_entry.Statement.{statement}
+use Rattle.insertion.proofs.insert.insert_entry.Tie as tie
+
+is-table-requires : tie.Need-is-table-requires
+is-table-requires c κs = search needs
+
+returns : tie.Need-returns
+returns c =
+    let a = c .before .before .before .args in
+    let w = insert-13 (a .entry) (a .out) (a .table .now) (sym (c .before .is-table .ensures) ∙ not-true _ (c .if1 .taken)) in
+    (sym (w .0), sym (w .1))
+
+is-legal-requires : tie.Need-is-legal-requires
+is-legal-requires c κs = search needs
+
+returns-2 : tie.Need-returns-2
+returns-2 c =
+    let a = c .before .before .before .before .before .args in
+    let t = sym (c .before .before .before .is-table .ensures) ∙ not-false _ (c .before .before .if1 .left) in
+    let w = insert-8 (a .entry) (a .out) (a .table .now) t (sym (c .before .is-legal .ensures) ∙ not-true _ (c .if2 .taken)) in
+    (sym (w .0), sym (w .1))
+
+first-empty-requires : tie.Need-first-empty-requires
+first-empty-requires c κs = table-shape (c .before .before .before .before .before .before .args .table .now) (sym (c .before .before .before .before .is-table .ensures) ∙ not-false _ (c .before .before .before .if1 .left)) .0
+
+mul-table : tie.Need-mul-table
+mul-table c = search needs
+
+mul-table-2 : tie.Need-mul-table-2
+mul-table-2 c = search needs
+
+slice-write-table : tie.Need-slice-write-table
+slice-write-table c = search needs
+
+tag-of-requires : tie.Need-tag-of-requires
+tag-of-requires c κs = sym (c .before .before .before .before .is-legal .ensures) ∙ not-false _ (c .before .before .before .if2 .left)
+
+mul-table-3 : tie.Need-mul-table-3
+mul-table-3 c = search needs
+
+add-table : tie.Need-add-table
+add-table c = search needs
+
+mul-table-4 : tie.Need-mul-table-4
+mul-table-4 c = search needs
+
+slice-write-table-2 : tie.Need-slice-write-table-2
+slice-write-table-2 c = simp length-set (omega arith)
+
+mul-table-5 : tie.Need-mul-table-5
+mul-table-5 c = search needs
+
+add-table-2 : tie.Need-add-table-2
+add-table-2 c = search needs
+
+mul-table-6 : tie.Need-mul-table-6
+mul-table-6 c = search needs
+
+slice-write-table-3 : tie.Need-slice-write-table-3
+slice-write-table-3 c = simp length-set (omega arith)
+
+same-length : tie.Need-same-length
+same-length c = search needs
+
+returns-3 : tie.Need-returns-3
+returns-3 c =
+    let a = c .before .before .before .before .before .before .before .before .before .args in
+    let t = sym (c .before .before .before .before .before .before .before .is-table .ensures) ∙ not-false _ (c .before .before .before .before .before .before .if1 .left) in
+    let v = sym (c .before .before .before .before .before .is-legal .ensures) ∙ not-false _ (c .before .before .before .before .if2 .left) in
+    let k = c .before .before .first-empty .result in
+    let w = insert-0 (a .entry) (a .out) (a .table .now) k t v (c .before .before .first-empty .ensures) (c .before .if3 .taken) in
+    (sym (w .0), ap (λ (n : ℕ). put k (a .entry .base) n (a .out) (a .table .now)) (c .tag-of .ensures) ∙ sym (w .1))
+
+same-length-2 : tie.Need-same-length-2
+same-length-2 c = search needs
+
+returns-4 : tie.Need-returns-4
+returns-4 c =
+    let a = c .before .before .before .before .before .before .before .before .args in
+    let t = sym (c .before .before .before .before .before .before .is-table .ensures) ∙ not-false _ (c .before .before .before .before .before .if1 .left) in
+    let v = sym (c .before .before .before .before .is-legal .ensures) ∙ not-false _ (c .before .before .before .if2 .left) in
+    let f = c .before .first-empty .ensures in
+    let w = insert-9 (a .entry) (a .out) (a .table .now) t v (omega (arith, f, c .if3 .left)) in
+    (sym (w .0), sym (w .1))
+
+pub insert-entry-spec : {M : Type 1} → statement M
+insert-entry-spec =
+    tie.close
+    (tie.spec
+    is-table-requires
+    returns
+    is-legal-requires
+    returns-2
+    first-empty-requires
+    mul-table
+    mul-table-2
+    slice-write-table
+    tag-of-requires
+    mul-table-3
+    add-table
+    mul-table-4
+    slice-write-table-2
+    mul-table-5
+    add-table-2
+    mul-table-6
+    slice-write-table-3
+    same-length
+    returns-3
+    same-length-2
+    returns-4)

@@ -1,0 +1,49 @@
+// Insert: the lowest slot that reads as empty is taken.
+ghost use Prim.Native.Nat.{_%_};
+ghost use mathlib.Core.Path.{_≡_};
+ghost use lib.ListN.{length};
+ghost use Rattle.laws.specs.Slots.{first};
+ghost use Rattle.machine.specs.Table.{isEmpty, insertedOf, insertTable};
+use entries::is_legal;
+use machine::Entry;
+use machine::Inserted;
+use tables::is_table;
+use tags::is_entry;
+use tags::tag_of;
+
+pub fn insert_entry(table: &mut [u64], entry: Entry, out: u64) -> Inserted
+    ensures { λ r. ⌜ r ≡ insertedOf entry (now (table .entry)) ⌝ }
+    ensures { λ r. ⌜ now (table .exit) ≡ insertTable entry out (now (table .entry)) ⌝ }
+{
+    if !is_table(table.len()) {
+        return Inserted::BadShape;
+    }
+    if !is_legal(entry) {
+        return Inserted::Illegal;
+    }
+    let k = first_empty(table);
+    if k < table.len() / 3 {
+        table[3 * k] = entry.base;
+        table[3 * k + 1] = tag_of(entry);
+        table[3 * k + 2] = out;
+        return Inserted::At(k);
+    }
+    Inserted::Full
+}
+
+// The lowest slot that reads as empty, or the number of slots.
+fn first_empty(table: &[u64]) -> usize
+    requires { ⌜ length (now table) % 3 ≡ 0 ⌝ }
+    ensures { λ r. ⌜ r ≡ first isEmpty (now (table .entry)) ⌝ }
+{
+    let mut i = 0;
+    let mut k = 0;
+    while i < table.len() {
+        if !is_entry(table[i], table[i + 1]) {
+            return k;
+        }
+        i += 3;
+        k += 1;
+    }
+    k
+}

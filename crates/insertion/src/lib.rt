@@ -1,0 +1,4 @@
+// Insert: an entry into the lowest empty slot.
+mod insert;
+
+pub use insert::insert_entry;

@@ -1,0 +1,5 @@
+// Scopes: what an operation that runs acts on, and which processors it reaches.
+mod reach;
+mod scope;
+
+pub use scope::scope_of;
