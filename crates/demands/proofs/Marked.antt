@@ -7,7 +7,8 @@ use lib.Dec.{eqb, ltb, leb}
 use borrow.Author.Tests.{eqb-true, ltb-true, leb-true, not-true}
 use Rattle.judge.proofs.Computed.{worksOf, freeAsid, namedAsid, coverAt, gapBase, gapKind, gapProcessor, judgedOf, judged-is}
 use Rattle.judge.proofs.Targets.{Fits}
-use Rattle.coverage.specs.Places.{isAsked, entryIn}
+use Rattle.coverage.specs.Places.{isAsked}
+use Rattle.judge.specs.Search.{entryIn}
 use Rattle.laws.proofs.Truth.{and-0, and-1, clash}
 use Rattle.laws.specs.Every.{every, any}
 use Rattle.laws.specs.Mask.{maskFrom}

@@ -30,7 +30,8 @@ use Rattle.judge.proofs.Deciding.{searches, decides, step-works}
 use Rattle.judge.proofs.Targets.{Fits}
 use Rattle.judge.proofs.Walk.{AtProcessor, AtKind, AtBase, start-processors, skip-processor, enter-processor, skip-kind, enter-kind, leave-kind, leave-processor, finish, jump, gap, asked-span}
 use Rattle.coverage.specs.Asids.{Free, Named}
-use Rattle.coverage.specs.Places.{isAsked, exponentIn, entryIn, Covers, Searched, Searches}
+use Rattle.coverage.specs.Places.{isAsked, exponentIn, Covers}
+use Rattle.judge.specs.Search.{entryIn, Searched, Searches}
 use Rattle.steps.specs.Steps.{workIn, workAt, stepAt, AreSteps, usedBy}
 use Rattle.coverage.specs.declared.cover.Cover.{Cover}
 use Rattle.coverage.specs.declared.cover.Cover.the-variants.{To, Open}

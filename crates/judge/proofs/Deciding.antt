@@ -35,7 +35,8 @@ use Rattle.machine.specs.declared.work.Resolved.the-variants as resolved
 use Rattle.machine.specs.declared.work.Work.{Work}
 use Rattle.judge.proofs.Targets.{Fits, Rules, target-keeps, candidate-aimed, hard, aimed-placed, none-all}
 use Rattle.coverage.specs.Asids.{Named}
-use Rattle.coverage.specs.Places.{exponentIn, entryIn, Candidate, Earlier, First, Searched, Searches}
+use Rattle.coverage.specs.Places.{exponentIn}
+use Rattle.judge.specs.Search.{entryIn, Candidate, Earlier, First, Searched, Searches}
 use Rattle.steps.specs.Steps.{workIn, workAt, stepAt, AreSteps, FirstOther, takenBy, usedBy}
 
 -- where no step is refused, the works are those of the steps

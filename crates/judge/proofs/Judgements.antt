@@ -30,7 +30,8 @@ use Rattle.machine.specs.declared.processor.State.{State}
 use Rattle.machine.specs.declared.scope.Regime.the-variants.{EL10, EL2, EL3}
 use Rattle.machine.specs.declared.scope.Security.the-variants.{NonSecure, Realm, Root}
 use Rattle.judge.proofs.Computed.{worksOf, freeAsid, namedAsid, coverAt, gapBase, gapKind, gapProcessor, judgedOf}
-use Rattle.coverage.specs.Places.{isAsked, entryIn}
+use Rattle.coverage.specs.Places.{isAsked}
+use Rattle.judge.specs.Search.{entryIn}
 
 -- at EL1 with EL2, Non-secure, VMID 7, number 1 of three, of which 0 and 1 are in one inner domain, without LPA2
 abbrev guesting : State

@@ -25,7 +25,8 @@ use Rattle.machine.specs.declared.judge.Target.{Target}
 use Rattle.machine.specs.declared.processor.State.{State}
 use Rattle.machine.specs.declared.work.Work.{Work}
 use Rattle.coverage.specs.Asids.{Named}
-use Rattle.coverage.specs.Places.{isAsked, exponentIn, placed, entryIn, Candidate}
+use Rattle.coverage.specs.Places.{isAsked, exponentIn, placed}
+use Rattle.judge.specs.Search.{entryIn, Candidate}
 
 -- the numbers of a target are of the sizes of its fields
 pub record Fits (t : Target) : Type 0 where

@@ -26,7 +26,8 @@ use Rattle.machine.specs.declared.entry.Entry.{Entry}
 use Rattle.machine.specs.declared.judge.Judged.the-variants.{Accepted, Gap}
 use Rattle.machine.specs.declared.judge.Target.{Target}
 use Rattle.machine.specs.declared.work.Work.{Work}
-use Rattle.coverage.specs.Places.{isAsked, exponentIn, placed, entryIn, Candidate, Earlier, CoversTo, Covers, Searched, Searches}
+use Rattle.coverage.specs.Places.{isAsked, exponentIn, placed, CoversTo, Covers}
+use Rattle.judge.specs.Search.{entryIn, Candidate, Earlier, Searched, Searches}
 use Rattle.steps.specs.Steps.{workAt, takenBy, AreOwned}
 use Rattle.coverage.specs.declared.cover.Cover.{Cover}
 use Rattle.coverage.specs.declared.cover.Cover.the-variants.{To, Open}

@@ -1,5 +1,5 @@
 // The search for an entry of the target that survives every step.
-ghost use Rattle.coverage.specs.Places.{Searched, Searches};
+ghost use Rattle.judge.specs.Search.{Searched, Searches};
 use coverage::Cover;
 use coverage::cover_of;
 use coverage::entry_in;

@@ -1,9 +1,10 @@
--- The definitions of slots by computation, with the test that the second number is 7.
+-- The definitions of slots by computation, with the test that the second number is 7; and parts of a number.
 use Prim.Native.Nat.{ℕ}
 use mathlib.Core.Bool.{Bool, true, false}
 use mathlib.Core.List.{List, [], _∷_}
 use mathlib.Core.Path.{_≡_, refl}
 use lib.Dec.{eqb}
+use Rattle.laws.specs.Bits.{bits, down}
 use Rattle.laws.specs.Slots.{slots, holdsAt, count, first, some, cleared, emptied, put}
 
 abbrev seven : ℕ → ℕ → ℕ → Bool
@@ -50,3 +51,7 @@ pub zeros :
     × (emptied seven (4 ∷ 7 ∷ 5 ∷ []) (0 ∷ 1 ∷ 0 ∷ []) ≡ 0)
 unfolding cleared emptied
 zeros = (refl, refl, refl, refl, refl, refl, refl, refl)
+
+-- bits 11:8, 7:0 and 63:60, and a number without its low 12 bits
+pub parts : (bits 11 8 0xABCDE ≡ 0xC) × (bits 7 0 0xABCDE ≡ 0xDE) × (bits 63 60 0xF123456789ABCDE7 ≡ 0xF) × (down 12 0xABCDE ≡ 0xAB000)
+parts = (refl, refl, refl, refl)

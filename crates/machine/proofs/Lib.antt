@@ -26,4 +26,5 @@ pub mod Pages
 pub mod Sample
 pub mod Rights
 pub mod Ranges
+pub mod Aims
 pub mod Example

@@ -9,7 +9,7 @@ use borrow.Author.Tests.{not-true, not-false}
 use Rattle.machine.specs.Span.{isLevel}
 use Rattle.judge.proofs.Walk.{AtProcessor, AtKind, AtBase, start-processors, skip-processor, enter-processor, skip-kind, enter-kind, leave-kind, leave-processor, finish, legal-here, jump, gap, covers-to, covers-open, round, asked-at, asked-most, base-most, entry-here}
 use Rattle.judge.proofs.search.search.Statement.{statement}
-use Rattle.coverage.specs.Places.{Searches}
+use Rattle.judge.specs.Search.{Searches}
 use Rattle.judge.proofs.search.search.Tie as tie
 
 abbrev Inv-bases : tie.InvT-bases

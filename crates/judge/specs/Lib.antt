@@ -1,0 +1,2 @@
+-- What the search of the judge says.
+pub mod Search
