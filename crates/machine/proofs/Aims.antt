@@ -61,9 +61,10 @@ over c granule one set first last =
 abbrev legal : Target → Bool
 legal t = isTarget (at 1 []) t
 
--- processors: none, all, one that is not there; granules 0 and 4; one ASID where there are none; companies that no entry can have
+-- processors: all, one, none, one that is not there; granules 0 and 4; one ASID where there are none; companies that no entry can have
 pub rules :
     (legal (over guest 1 true 7 0 0)
+    ∷ legal (over guest 1 true 1 0 0)
     ∷ legal (over guest 1 true 0 0 0)
     ∷ legal (over guest 1 true 8 0 0)
     ∷ legal (over guest 0 true 7 0 0)
@@ -76,7 +77,7 @@ pub rules :
     ∷ legal (over (stage1 EL2 NonSecure 7) 1 false 7 0 0)
     ∷ legal (over (stage1 EL10 Root 7) 1 true 7 0 0)
     ∷ []
-    ≡ true ∷ false ∷ false ∷ false ∷ true ∷ false ∷ true ∷ false ∷ true ∷ false ∷ false ∷ false ∷ [])
+    ≡ true ∷ true ∷ false ∷ false ∷ false ∷ true ∷ false ∷ true ∷ false ∷ true ∷ false ∷ false ∷ false ∷ [])
 unfolding isTarget areAddresses isCompany hasAsids inReach
 rules = refl
 
