@@ -1,8 +1,14 @@
 //! Phrases between commas, and the numbers in them.
 
-/// The phrases of a line, each in words of lower case.
-pub fn phrases(text: &str) -> impl Iterator<Item = Vec<String>> + '_ {
-    text.split(',').map(|phrase| phrase.split_whitespace().map(str::to_lowercase).collect::<Vec<_>>()).filter(|words| !words.is_empty())
+/// Hands each phrase of a line on, in words of lower case, up to the first that cannot be read.
+pub fn each(text: &str, mut read: impl FnMut(&[&str]) -> Result<(), String>) -> Result<(), String> {
+    for phrase in text.to_lowercase().split(',') {
+        let words: Vec<&str> = phrase.split_whitespace().collect();
+        if !words.is_empty() {
+            read(&words)?;
+        }
+    }
+    Ok(())
 }
 
 /// A number in decimal, or in hexadecimal behind 0x.

@@ -1,5 +1,5 @@
 //! `state: EL1, EL2 present, TLBIRANGE, SCR.NS, VMID 7, processor 0 of 4`
-use crate::phrase::{half, phrases, small};
+use crate::phrase::{each, half, small};
 use chickadoor::{Flags, State};
 
 const EXPECTED: &str =
@@ -8,11 +8,7 @@ const EXPECTED: &str =
     `inner domains 0 0 1 1` or `outer domains 0 0 0 0`";
 
 pub fn add(state: &mut State, text: &str) -> Result<(), String> {
-    for words in phrases(text) {
-        let words: Vec<&str> = words.iter().map(String::as_str).collect();
-        phrase(state, &words)?;
-    }
-    Ok(())
+    each(text, |words| phrase(state, words))
 }
 
 fn phrase(state: &mut State, words: &[&str]) -> Result<(), String> {

@@ -1,5 +1,5 @@
 //! `target: Non-secure EL1&0, VMID 7, 4K, all ASIDs, processors 0 1 2 3, 0x40000000 to 0x40003fff`
-use crate::phrase::{half, number, phrases, small};
+use crate::phrase::{each, half, number, small};
 use chickadoor::{Asids, Company, Granule, Regime, Security, Target};
 
 const EXPECTED: &str =
@@ -22,11 +22,7 @@ pub struct TargetText {
 }
 
 pub fn add(target: &mut TargetText, text: &str) -> Result<(), String> {
-    for words in phrases(text) {
-        let words: Vec<&str> = words.iter().map(String::as_str).collect();
-        phrase(target, &words)?;
-    }
-    Ok(())
+    each(text, |words| phrase(target, words))
 }
 
 fn phrase(target: &mut TargetText, words: &[&str]) -> Result<(), String> {
