@@ -9,7 +9,7 @@ use Rattle.machine.specs.Execute.{executedOf, executeTable, ranOf, runTable}
 use Rattle.machine.specs.Judge.{Verdict}
 use Rattle.machine.specs.Listing.{writtenOf, tailWritten}
 use Rattle.machine.specs.Operand.{operandOf, wordsOf}
-use Rattle.machine.specs.Table.{insertedOf, insertTable, lookedUpOf}
+use Rattle.machine.specs.Table.{insertedOf, insertTable, lookedUpOf, slotReadOf}
 use Rattle.machine.specs.Word.{readOf, builtOf}
 use Rattle.machine.specs.declared.entry.Entry.{Entry}
 use Rattle.machine.specs.declared.judge.Judged.{Judged}
@@ -25,6 +25,7 @@ use Rattle.machine.specs.declared.processor.State.{State}
 use Rattle.machine.specs.declared.scope.Regime.{Regime}
 use Rattle.machine.specs.declared.table.Inserted.{Inserted}
 use Rattle.machine.specs.declared.table.LookedUp.{LookedUp}
+use Rattle.machine.specs.declared.table.SlotRead.{SlotRead}
 use Rattle.machine.specs.declared.work.Executed.{Executed}
 use Rattle.machine.specs.declared.work.Ran.{Ran}
 
@@ -42,12 +43,15 @@ Reads t xt xt2 r = r ≡ operandOf t xt xt2
 abbrev pub Writes : Told → Operand → OperandWritten → Type 0
 Writes t o r = r ≡ wordsOf t o
 
--- insert, look up and execute: the table before, the answer, and the table after
+-- insert, look up, read a slot back, and execute: the table before, the answer, and the table after
 abbrev pub Inserts : Entry → ℕ → List ℕ → Inserted → List ℕ → Type 0
 Inserts e out l r m = (r ≡ insertedOf e l) × (m ≡ insertTable e out l)
 
 abbrev pub LooksUp : State → Regime → ℕ → ℕ → List ℕ → LookedUp → List ℕ → Type 0
 LooksUp st regime asid address l r m = (r ≡ lookedUpOf st regime asid address l) × (m ≡ l)
+
+abbrev pub ReadsSlot : ℕ → List ℕ → SlotRead → List ℕ → Type 0
+ReadsSlot k l r m = (r ≡ slotReadOf k l) × (m ≡ l)
 
 abbrev pub Executes : State → ℕ → ℕ → ℕ → List ℕ → Executed → List ℕ → Type 0
 Executes st word xt xt2 l r m = (r ≡ executedOf st word xt xt2 l) × (m ≡ executeTable st word xt xt2 l)

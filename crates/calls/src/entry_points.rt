@@ -1,6 +1,6 @@
 // The public calls. None asks anything of its caller: any instruction word, operand, processor state, table or list gets an answer.
 ghost use mathlib.Core.Path.{_≡_};
-ghost use Rattle.calls.specs.Promises.{Decodes, Builds, Reads, Writes, Inserts, LooksUp, Executes, Runs, Judges, Lists, Tails};
+ghost use Rattle.calls.specs.Promises.{Decodes, Builds, Reads, Writes, Inserts, LooksUp, ReadsSlot, Executes, Runs, Judges, Lists, Tails};
 use listing::Listed;
 use machine::Built;
 use machine::Decoded;
@@ -15,6 +15,7 @@ use machine::OperandWritten;
 use machine::Operation;
 use machine::Ran;
 use machine::Regime;
+use machine::SlotRead;
 use machine::State;
 use machine::Target;
 use machine::Told;
@@ -55,6 +56,12 @@ pub fn look_up(table: &[u64], state: State, regime: Regime, asid: u16, address: 
     ensures { λ r. ⌜ LooksUp state regime asid address (now (table .entry)) r (now (table .exit)) ⌝ }
 {
     tables::look_up(table, state, regime, asid, address)
+}
+
+pub fn read_slot(table: &[u64], slot: usize) -> SlotRead
+    ensures { λ r. ⌜ ReadsSlot slot (now (table .entry)) r (now (table .exit)) ⌝ }
+{
+    tables::read_slot(table, slot)
 }
 
 pub fn execute(table: &mut [u64], state: State, word: u64, xt: u64, xt2: u64) -> Executed

@@ -9,6 +9,7 @@ pub use entry_points::judge;
 pub use entry_points::list;
 pub use entry_points::look_up;
 pub use entry_points::read_operand;
+pub use entry_points::read_slot;
 pub use entry_points::run;
 pub use entry_points::tail;
 pub use entry_points::write_operand;

@@ -11,7 +11,7 @@ use Rattle.listing.specs.declared.code.Listed.{Listed}
 use Rattle.machine.specs.Execute.{executedOf, executeTable, ranOf, runTable}
 use Rattle.machine.specs.Listing.{writtenOf, tailWritten}
 use Rattle.machine.specs.Operand.{operandOf, wordsOf}
-use Rattle.machine.specs.Table.{insertedOf, insertTable, lookedUpOf}
+use Rattle.machine.specs.Table.{insertedOf, insertTable, lookedUpOf, slotReadOf}
 use Rattle.machine.specs.Word.{readOf, builtOf}
 use Rattle.machine.specs.declared.entry.Entry.{Entry}
 use Rattle.machine.specs.declared.judge.Judged.{Judged}
@@ -21,7 +21,7 @@ use Rattle.machine.specs.declared.operand.Told.{Told}
 use Rattle.machine.specs.declared.operation.Operation.{Operation}
 use Rattle.machine.specs.declared.processor.State.{State}
 use Rattle.machine.specs.declared.scope.Regime.{Regime}
-use Rattle.calls.specs.Promises.{Decodes, Builds, Reads, Writes, Inserts, LooksUp, Executes, Runs, Judges, Lists, Tails}
+use Rattle.calls.specs.Promises.{Decodes, Builds, Reads, Writes, Inserts, LooksUp, ReadsSlot, Executes, Runs, Judges, Lists, Tails}
 use Rattle.demands.specs.One.{OneAnswer, One}
 
 pub decode-one : (word : ℕ) → OneAnswer (Decodes word)
@@ -41,6 +41,9 @@ insert-one e out l = record { answer = insertedOf e l; memory = insertTable e ou
 
 pub look-up-one : (st : State) (r : Regime) (asid address : ℕ) (l : List ℕ) → One (LooksUp st r asid address l)
 look-up-one st r asid address l = record { answer = lookedUpOf st r asid address l; memory = l; kept = (refl, refl); only = λ a m h. h }
+
+pub read-slot-one : (k : ℕ) (l : List ℕ) → One (ReadsSlot k l)
+read-slot-one k l = record { answer = slotReadOf k l; memory = l; kept = (refl, refl); only = λ r m h. h }
 
 pub execute-one : (st : State) (word xt xt2 : ℕ) (l : List ℕ) → One (Executes st word xt xt2 l)
 execute-one st word xt xt2 l = record {

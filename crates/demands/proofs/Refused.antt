@@ -6,21 +6,22 @@ use mathlib.Core.Logic.{_↔_}
 use mathlib.Core.Path.{_≡_, refl, sym, ap, subst, _∙_}
 use native.Mathlib.Omega.{arith}
 use lib.Dec.{eqb, ltb}
-use Rattle.laws.specs.Slots.{first, some}
+use Rattle.laws.specs.Slots.{slots, holdsAt, first, some}
 use Rattle.machine.proofs.Covered.{read-answer, write-answer}
 use Rattle.machine.proofs.Executing.{execute-answer, execute-refused}
 use Rattle.machine.proofs.Found.{lookup-answer}
 use Rattle.machine.proofs.Inserting.{insert-answer, insert-refused}
+use Rattle.machine.proofs.Reading.{slot-answer}
 use Rattle.machine.proofs.Running.{run-answer, run-refused, refuses-answer}
 use Rattle.machine.proofs.Trip.{reads-built}
 use Rattle.machine.proofs.Verdicts.{verdict-number, step-is, entry-is}
-use Rattle.machine.specs.Answer.{decodedNumber, builtNumber, readNumber, writtenNumber, judgedNumber, judgedStep, judgedEntry, noEntry, insertedNumber, lookedUpNumber, resolvedNumber, executedNumber, ranNumber}
+use Rattle.machine.specs.Answer.{decodedNumber, builtNumber, readNumber, writtenNumber, judgedNumber, judgedStep, judgedEntry, noEntry, insertedNumber, lookedUpNumber, resolvedNumber, executedNumber, ranNumber, slotNumber}
 use Rattle.machine.specs.Entry.{isLegal}
 use Rattle.machine.specs.Execute.{resolvedOf, isList, refuses}
 use Rattle.machine.specs.Judge.{isOutside}
 use Rattle.machine.specs.Operand.{tgIn, isWritable}
 use Rattle.machine.specs.State.{badState}
-use Rattle.machine.specs.Table.{isTable, isEmpty, stage1Of, matches}
+use Rattle.machine.specs.Table.{isTable, slotReads, isEmpty, stage1Of, matches}
 use Rattle.machine.specs.Target.{isTarget}
 use Rattle.machine.specs.Word.{readOf, wordOf, builtOf}
 use Rattle.machine.specs.declared.entry.Entry.{Entry}
@@ -39,9 +40,10 @@ use Rattle.machine.specs.declared.processor.State.{State}
 use Rattle.machine.specs.declared.scope.Regime.{Regime}
 use Rattle.machine.specs.declared.table.Inserted.{Inserted}
 use Rattle.machine.specs.declared.table.LookedUp.{LookedUp}
+use Rattle.machine.specs.declared.table.SlotRead.{SlotRead}
 use Rattle.machine.specs.declared.work.Executed.{Executed}
 use Rattle.machine.specs.declared.work.Ran.{Ran}
-use Rattle.calls.specs.Promises.{Decodes, Builds, Reads, Writes, Inserts, LooksUp, Executes, Runs, Judges}
+use Rattle.calls.specs.Promises.{Decodes, Builds, Reads, Writes, Inserts, LooksUp, ReadsSlot, Executes, Runs, Judges}
 
 -- some operation builds the word
 pub record Operated (word : ℕ) : Type 0 where
@@ -62,6 +64,11 @@ insert-number e out l r m h = ap insertedNumber (h .0) ∙ insert-answer e l
 pub look-up-number : (st : State) (g : Regime) (asid address : ℕ) (l : List ℕ) (r : LookedUp) (m : List ℕ) → LooksUp st g asid address l r m →
     lookedUpNumber r ≡ cond (not (isTable l)) 13 (cond (badState st) 2 (cond (not (some (matches (stage1Of st g) (st .board .own) asid address) l)) 14 0))
 look-up-number st g asid address l r m h = ap lookedUpNumber (h .0) ∙ lookup-answer st g asid address l
+
+-- a slot read back: 13, 8 where there is no such slot, 14 where it reads as empty
+pub read-slot-number : (k : ℕ) (l : List ℕ) (r : SlotRead) (m : List ℕ) → ReadsSlot k l r m →
+    slotNumber r ≡ cond (not (isTable l)) 13 (cond (not (ltb k (slots l))) 8 (cond (not (holdsAt slotReads l k)) 14 0))
+read-slot-number k l r m h = ap slotNumber (h .0) ∙ slot-answer k l
 
 -- "Run: 13, 2, 10"
 pub run-number : (st : State) (steps l : List ℕ) (r : Ran) (m : List ℕ) → Runs st steps l r m →
@@ -135,3 +142,7 @@ run-unchanged st steps l r m h n = h .1 ∙ run-refused st steps l (subst (λ (x
 -- whatever look up answers
 pub look-up-unchanged : (st : State) (g : Regime) (asid address : ℕ) (l : List ℕ) (r : LookedUp) (m : List ℕ) → LooksUp st g asid address l r m → m ≡ l
 look-up-unchanged st g asid address l r m h = h .1
+
+-- whatever reading a slot back answers
+pub read-slot-unchanged : (k : ℕ) (l : List ℕ) (r : SlotRead) (m : List ℕ) → ReadsSlot k l r m → m ≡ l
+read-slot-unchanged k l r m h = h .1

@@ -9,10 +9,11 @@ use Rattle.laws.specs.Slots.{slots, holdsAt}
 use Rattle.machine.proofs.Fields.{read-written, written-read, refused-unread}
 use Rattle.machine.proofs.Found.{Seen, seen, unseen, inserted-found}
 use Rattle.machine.proofs.Inserting.{Taken, taken, taken-reads}
+use Rattle.machine.proofs.Reading.{inserted-back}
 use Rattle.machine.proofs.Trip.{built-word, built-reads, read-builds, read-far}
 use Rattle.machine.specs.Operand.{staysXt, staysXt2, cleared}
 use Rattle.machine.specs.State.{badState}
-use Rattle.machine.specs.Table.{slotEntry, stage1Of, translates, matches, lookedUpOf, slotReads, isTable}
+use Rattle.machine.specs.Table.{slotEntry, stage1Of, translates, matches, lookedUpOf, slotReads, isTable, slotReadOf}
 use Rattle.machine.specs.Tag.{Sized}
 use Rattle.machine.specs.Word.{readOf}
 use Rattle.machine.specs.declared.entry.Entry.{Entry}
@@ -32,7 +33,9 @@ use Rattle.machine.specs.declared.table.Inserted.the-variants.{At}
 use Rattle.machine.specs.declared.table.LookedUp.{LookedUp}
 use Rattle.machine.specs.declared.table.LookedUp.the-variants.{Found, NotFound}
 use Rattle.machine.specs.declared.table.Match.{Match}
-use Rattle.calls.specs.Promises.{Decodes, Builds, Reads, Writes, Inserts, LooksUp}
+use Rattle.machine.specs.declared.table.SlotRead.{SlotRead}
+use Rattle.machine.specs.declared.table.SlotRead.the-variants.{Holds}
+use Rattle.calls.specs.Promises.{Decodes, Builds, Reads, Writes, Inserts, LooksUp, ReadsSlot}
 
 -- reading what was written gives the same fields
 pub operand-back : (t : Told) (o : Operand) (xt xt2 : ℕ) (r : OperandRead) → Writes t o (Words xt xt2) → Reads t xt xt2 r → r ≡ Fields o
@@ -70,6 +73,9 @@ pub slot-back : (e : Entry) (out : ℕ) (l : List ℕ) (k : ℕ) (m : List ℕ) 
 slot-back e out l k m z h =
     let (reads, entry, output) = taken-reads e out l k z (sym (h .0)) in
     (ap (λ (t : List ℕ). holdsAt slotReads t k) (h .1) ∙ reads, ap (λ (t : List ℕ). slotEntry t k) (h .1) ∙ entry, ap (λ (t : List ℕ). getD t (3 * k + 2) 0) (h .1) ∙ output)
+
+pub slot-read-back : (e : Entry) (out : ℕ) (l : List ℕ) (k : ℕ) (m : List ℕ) (r : SlotRead) (n : List ℕ) → Sized e → Inserts e out l (At k) m → ReadsSlot k m r n → r ≡ Holds e out
+slot-read-back e out l k m r n z i s = s .0 ∙ ap (slotReadOf k) (i .1) ∙ inserted-back e out l k z (sym (i .0))
 
 -- "it finds the lowest slot ..."; "It returns the slot, output word and slots examined: position plus one"
 pub slot-found : (st : State) (g : Regime) (asid address : ℕ) (l : List ℕ) (f : Match) (m : List ℕ) → LooksUp st g asid address l (Found f) m →

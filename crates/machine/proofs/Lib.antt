@@ -10,6 +10,7 @@ pub mod Spans
 pub mod Tags
 pub mod Inserting
 pub mod Found
+pub mod Reading
 pub mod Works
 pub mod Going
 pub mod Executing

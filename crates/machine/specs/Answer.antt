@@ -25,6 +25,8 @@ use Rattle.machine.specs.declared.table.Inserted.{Inserted}
 use Rattle.machine.specs.declared.table.Inserted.the-variants as inserted
 use Rattle.machine.specs.declared.table.LookedUp.{LookedUp}
 use Rattle.machine.specs.declared.table.LookedUp.the-variants as looked
+use Rattle.machine.specs.declared.table.SlotRead.{SlotRead}
+use Rattle.machine.specs.declared.table.SlotRead.the-variants as slot
 use Rattle.machine.specs.declared.work.Executed.{Executed}
 use Rattle.machine.specs.declared.work.Executed.the-variants as executed
 use Rattle.machine.specs.declared.work.Ran.{Ran}
@@ -231,3 +233,22 @@ judgedEntry judged.BadTarget = noEntry
 judgedEntry (judged.Refused k) = noEntry
 judgedEntry (judged.Outside k) = noEntry
 judgedEntry (judged.Gap e) = e
+
+-- a slot read back: 13 for the table's shape, 8 for a slot that it has not, 14 for one that reads as empty; the entry and the output word
+abbrev pub slotNumber : SlotRead → ℕ
+slotNumber (slot.Holds e out) = 0
+slotNumber slot.BadShape = 13
+slotNumber slot.NoSlot = 8
+slotNumber slot.Empty = 14
+
+abbrev pub slotEntryRead : SlotRead → Entry
+slotEntryRead (slot.Holds e out) = e
+slotEntryRead slot.BadShape = noEntry
+slotEntryRead slot.NoSlot = noEntry
+slotEntryRead slot.Empty = noEntry
+
+abbrev pub slotOut : SlotRead → ℕ
+slotOut (slot.Holds e out) = out
+slotOut slot.BadShape = 0
+slotOut slot.NoSlot = 0
+slotOut slot.Empty = 0

@@ -3,9 +3,9 @@ use Prim.Native.Nat.{ℕ, _+_, _*_, _%_}
 use mathlib.Core.Bool.{Bool, true, false, cond, not, _&&_, _||_}
 use mathlib.Core.List.{List}
 use mathlib.Core.Path.{_≡_}
-use lib.Dec.{eqb, leb}
+use lib.Dec.{eqb, ltb, leb}
 use lib.ListN.{length, getD}
-use Rattle.laws.specs.Slots.{slots, first, some, put}
+use Rattle.laws.specs.Slots.{slots, holdsAt, first, some, put}
 use Rattle.machine.specs.declared.entry.Company.{Company}
 use Rattle.machine.specs.declared.entry.Entry.{Entry}
 use Rattle.machine.specs.declared.processor.State.{State}
@@ -14,6 +14,8 @@ use Rattle.machine.specs.declared.table.Inserted.{Inserted}
 use Rattle.machine.specs.declared.table.Inserted.the-variants as inserted
 use Rattle.machine.specs.declared.table.LookedUp.{LookedUp}
 use Rattle.machine.specs.declared.table.LookedUp.the-variants as looked
+use Rattle.machine.specs.declared.table.SlotRead.{SlotRead}
+use Rattle.machine.specs.declared.table.SlotRead.the-variants as slot
 use Rattle.machine.specs.State.{securityIn, vmidIn, badState}
 use Rattle.machine.specs.Span.{inSpan}
 use Rattle.machine.specs.Entry.{hasAsids, spanOf, isLegal}
@@ -39,6 +41,13 @@ Holds l k a b c = (getD l (3 * k) 0 ≡ a) × (getD l (3 * k + 1) 0 ≡ b) × (g
 
 abbrev pub Kept : List ℕ → List ℕ → ℕ → Type 0
 Kept l m k = Holds m k (getD l (3 * k) 0) (getD l (3 * k + 1) 0) (getD l (3 * k + 2) 0)
+
+-- a slot "reads back as every field and the output word it was given", or "as empty", if the table has it
+unfoldable pub slotReadOf : ℕ → List ℕ → SlotRead
+slotReadOf k l =
+    cond (isTable l)
+    (cond (ltb k (slots l)) (cond (holdsAt slotReads l k) (slot.Holds (slotEntry l k) (getD l (3 * k + 2) 0)) slot.Empty) slot.NoSlot)
+    slot.BadShape
 
 -- "reads as empty"
 abbrev pub isEmpty : ℕ → ℕ → ℕ → Bool

@@ -43,6 +43,7 @@ pub use scope::Security;
 pub use table::Inserted;
 pub use table::LookedUp;
 pub use table::Match;
+pub use table::SlotRead;
 pub use work::Executed;
 pub use work::Ran;
 pub use work::Resolved;

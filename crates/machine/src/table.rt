@@ -1,4 +1,5 @@
-// What insert and look up answer.
+// What insert, look up and reading a slot back answer.
+use crate::entry::Entry;
 
 // The slot that was taken, or bad shape, or that the entry breaks a rule, or that no slot reads as empty.
 pub enum Inserted {
@@ -21,4 +22,12 @@ pub enum LookedUp {
     BadShape,
     BadState,
     NotFound(usize),
+}
+
+// The entry and the output word that a slot holds, or bad shape, or that there is no such slot, or that it reads as empty.
+pub enum SlotRead {
+    Holds(Entry, u64),
+    BadShape,
+    NoSlot,
+    Empty,
 }
