@@ -3,6 +3,11 @@ mod number;
 mod slot;
 mod tag;
 
+pub use number::flag;
+pub use number::regime_at;
+pub use number::regime_number;
+pub use number::security_at;
+pub use number::security_number;
 pub use slot::entry_at;
 pub use slot::is_entry;
 pub use tag::company_tag;

@@ -1,0 +1,23 @@
+// Flags, regimes and levels, as the numbers that C gives for them.
+ghost use mathlib.Core.Path.{_≡_};
+ghost use Rattle.received.specs.Numbers.{isRegime, levelIn};
+
+pub fn is_regime(number: u64) -> bool
+    ensures { λ r. ⌜ r ≡ isRegime number ⌝ }
+{
+    number < 4
+}
+
+// -1 to 3, of a signed word; any other word is no level.
+pub fn level_in(word: u64) -> i8
+    ensures { λ r. ⌜ r ≡ levelIn word ⌝ }
+{
+    match word {
+        0 => 0,
+        1 => 1,
+        2 => 2,
+        3 => 3,
+        0xFFFFFFFFFFFFFFFF => -1,
+        _ => 4,
+    }
+}

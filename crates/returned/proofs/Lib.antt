@@ -1,0 +1,2 @@
+-- Laws of the words that C gets.
+pub mod Words

@@ -1,0 +1,3 @@
+-- What C gets for the answers.
+pub mod Words
+pub mod Known
