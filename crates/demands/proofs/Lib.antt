@@ -5,6 +5,7 @@ pub mod Senseless
 pub mod Happens
 pub mod Dropped
 pub mod Written
+pub mod Linked
 pub mod Lists
 pub mod Examples
 pub mod Marked

@@ -1,0 +1,2 @@
+-- Laws of what C's records stand for.
+pub mod Unfit
