@@ -3,7 +3,7 @@
  * The library keeps nothing between calls, allocates nothing and calls nothing of the system. Whatever values its arguments have, each function ends,
  * answers, and touches no memory but the table, the text and the record that it is lent. Calls on different memory may run at the same time.
  *
- * Pointers must point to what they say: `table` to `words` 64-bit words, `list` to `steps` times three, `out` to its record. None may be NULL, not even
+ * Pointers must point to what they say: `table` to `words` 64-bit words, `list` to `list_words`, `code` and `text` to their bytes, `out` to its record. None may be NULL, not even
  * with a count of 0, and `table`, `list`, `text`, `code` and `out` must not overlap.
  *
  * Link with the archive that `rt staticlib board` writes: target/staticlib/libboard.a (x86-64).
@@ -91,40 +91,73 @@ enum chickadoor_form {
     CHICKADOOR_STAGE2 = 4            /* RIPAS2 otherwise */
 };
 
-/* The processor that runs an instruction, and its board. Flags are 0 or 1.
+/* Registers and features of a processor. Every field is a flag: 0 or 1. */
+struct chickadoor_present {
+    uint8_t el2, el3;  /* EL2 and EL3 are there */
+};
+struct chickadoor_features {
+    uint8_t tlbirange, tlbios, d128, xs, lpa2, rme, sel2, fgt, hcx;  /* FEAT_* */
+};
+struct chickadoor_scr {
+    uint8_t ns, nse, eel2, fgten, hxen;  /* SCR_EL3; not read without EL3 */
+};
+struct chickadoor_hcr {
+    uint8_t e2h, tge, ttlb, ttlbis, ttlbos, nv;  /* HCR_EL2; they count as 0 while EL2 is disabled */
+};
+struct chickadoor_hcrx {
+    uint8_t fnxs, fgtnxs;  /* HCRX_EL2 */
+};
+struct chickadoor_flags {
+    uint8_t local, inner, outer;  /* by shareability: none, IS, OS */
+};
+struct chickadoor_traps {
+    struct chickadoor_flags rvae1, rvaae1, rvale1, rvaale1;  /* fine-grained traps, HFGITR_EL2 */
+};
+struct chickadoor_ds {
+    uint8_t el1, el2, el3, stage2;  /* DS of TCR_EL1, TCR_EL2, TCR_EL3 and VTCR_EL2 */
+};
+
+/* The processors of a board. */
+struct chickadoor_board {
+    uint8_t own;       /* number of the processor that runs the instruction, below the count */
+    uint8_t count;     /* how many processors there are, 1 to 8 */
+    uint8_t inner[8];  /* inner shareable domain of each, any number; those at or above the count are not read */
+    uint8_t outer[8];  /* outer shareable domain of each */
+};
+
+/* The processor that runs an instruction, and its board. All zeros but board.count = 1 is EL0 of one processor with nothing present.
  *
- * A state is bad if a flag is neither; el is over 3; el is 2 and EL2 absent or disabled; el is 3 and EL3 absent; RME is there without EL3; RME is there
- * and NSE, NS are 1, 0; count is not 1 to 8; own is not below count; or two processors below the count share an inner and not the outer domain. */
+ * A state is bad if a flag is neither 0 nor 1; el is over 3; el is 2 and EL2 absent or disabled; el is 3 and EL3 absent; RME is there without EL3; RME is
+ * there and scr.nse, scr.ns are 1, 0; board.count is not 1 to 8; board.own is not below it; or two processors below the count share an inner and not the
+ * outer domain. EL2 is enabled if it is present and the security state is not Secure, or features.sel2 and scr.eel2 are 1. The security state is Non-secure
+ * without EL3; else scr.ns, and with RME scr.nse and scr.ns, give it (0, 0 Secure; 0, 1 Non-secure; 1, 1 Realm). */
 struct chickadoor_state {
-    uint8_t el;          /* current exception level, 0 to 3 */
-    uint8_t el2, el3;    /* flags: EL2 and EL3 are there */
-    /* flags: features */
-    uint8_t tlbirange, tlbios, d128, xs, lpa2, rme, sel2, fgt, hcx;
-    /* flags: SCR_EL3 */
-    uint8_t scr_ns, scr_nse, scr_eel2, scr_fgten, scr_hxen;
-    /* flags: HCR_EL2 */
-    uint8_t hcr_e2h, hcr_tge, hcr_ttlb, hcr_ttlbis, hcr_ttlbos, hcr_nv;
-    /* flags: HCRX_EL2 */
-    uint8_t hcrx_fnxs, hcrx_fgtnxs;
-    /* flags: the fine-grained traps of HFGITR_EL2 */
-    uint8_t trap_rvae1, trap_rvae1is, trap_rvae1os;
-    uint8_t trap_rvaae1, trap_rvaae1is, trap_rvaae1os;
-    uint8_t trap_rvale1, trap_rvale1is, trap_rvale1os;
-    uint8_t trap_rvaale1, trap_rvaale1is, trap_rvaale1os;
-    /* flags: DS of TCR_EL1, TCR_EL2, TCR_EL3 and VTCR_EL2 */
-    uint8_t ds_el1, ds_el2, ds_el3, ds_stage2;
-    uint8_t own;         /* this processor's number */
-    uint8_t count;       /* how many processors there are, 1 to 8 */
-    uint8_t inner[8];    /* inner shareable domain of each; those at or above the count are not read */
-    uint8_t outer[8];    /* outer shareable domain of each */
-    uint16_t vmid;       /* VTTBR_EL2.VMID */
+    uint8_t el;  /* current exception level, 0 to 3 */
+    struct chickadoor_present present;
+    struct chickadoor_features features;
+    struct chickadoor_scr scr;
+    struct chickadoor_hcr hcr;
+    struct chickadoor_hcrx hcrx;
+    struct chickadoor_traps traps;
+    struct chickadoor_ds ds;
+    struct chickadoor_board board;
+    uint16_t vmid;  /* VTTBR_EL2.VMID; it counts as 0 while EL2 is disabled */
+};
+
+/* Whose an entry is. Rules: stage 2 is EL1&0's; EL3 is Root or Secure, other regimes never Root; a VMID only in EL1&0; ns only in Secure stage 2. */
+struct chickadoor_company {
+    uint64_t regime;    /* enum chickadoor_regime */
+    uint64_t security;  /* enum chickadoor_security */
+    uint64_t vmid;      /* 0 to 0xffff; 0 outside EL1&0 */
+    uint64_t stage2;    /* flag */
+    uint64_t ns;        /* flag: the IPA space, as NS */
 };
 
 /* An entry of the translation cache. Any other value in a field, or a broken rule, is answered CHICKADOOR_BREAKS_RULE.
  *
- * Rules: stage 2 is EL1&0's; EL3 is Root or Secure, other regimes never Root; a VMID only in EL1&0; an ASID and global only in stage 1 of EL1&0 and
- * EL2&0; NS only in Secure stage 2; a non-leaf is at level -1 to 2 and not global, a leaf at level 1 to 3; the level has a span (below); the base is a
- * multiple of it, with bits 63:55 equal (stage 1 of EL1&0 and EL2&0) or below 2^56 (all else). Spans, as exponents of two, level -1 to 3:
+ * Rules: those of the company; an ASID and global only in stage 1 of EL1&0 and EL2&0; a non-leaf is at level -1 to 2 and not global, a leaf at level 1 to 3;
+ * the level has a span (below); the base is a multiple of it, with bits 63:55 equal (stage 1 of EL1&0 and EL2&0) or below 2^56 (all else). Spans, as
+ * exponents of two, level -1 to 3:
  *
  *              4K               16K                64K
  *    64-bit    48 39 30 21 12   -- 47 36 25 14     -- -- 42 29 16
@@ -132,12 +165,8 @@ struct chickadoor_state {
  */
 struct chickadoor_entry {
     uint64_t processor;  /* whose cache it is in, 0 to 7 */
-    uint64_t regime;     /* enum chickadoor_regime */
-    uint64_t security;   /* enum chickadoor_security */
-    uint64_t vmid;       /* 0 to 0xffff */
-    uint64_t stage2;     /* flag */
-    uint64_t ns;         /* flag: the IPA space, as NS */
-    uint64_t asid;       /* 0 to 0xffff */
+    struct chickadoor_company company;
+    uint64_t asid;       /* 0 to 0xffff; 0 where there are none */
     uint64_t global;     /* flag */
     uint64_t wide;       /* flag: 128-bit descriptors */
     uint64_t granule;    /* enum chickadoor_granule */
@@ -149,16 +178,12 @@ struct chickadoor_entry {
 
 /* The entries that a list is to clear. Any other value in a field, or a broken rule, is answered CHICKADOOR_BREAKS_RULE.
  *
- * Rules: regime to ns are what some entry can have; one is 0 in EL2, EL3 and stage 2; processors names at least one processor, and none at or above the
+ * Rules: the company is one that an entry can have; one is 0 in EL2, EL3 and stage 2; processors names at least one processor, and none at or above the
  * state's count; first is not above last; both have bits 63:55 all 0 or both all 1 (stage 1 of EL1&0 and EL2&0), or both are below 2^56 (all else). */
 struct chickadoor_target {
-    uint64_t regime;
-    uint64_t security;
-    uint64_t vmid;
-    uint64_t stage2;
-    uint64_t ns;
-    uint64_t wide;
-    uint64_t granule;
+    struct chickadoor_company company;
+    uint64_t wide;        /* flag: entries of 128-bit descriptors, else of 64-bit */
+    uint64_t granule;     /* enum chickadoor_granule */
     uint64_t one;         /* flag: entries of one ASID, and global leaves; else of all */
     uint64_t asid;        /* that ASID, 0 to 0xffff; it decides nothing if one is 0 */
     uint64_t leaves;      /* flag: leaves only */
@@ -181,7 +206,7 @@ struct chickadoor_told {
     uint64_t tlbip;    /* flag: TLBIP, else TLBI */
     uint64_t form;     /* enum chickadoor_form */
     uint64_t lpa2;     /* flag: LPA2 is there */
-    uint64_t unit64k;  /* flag: a TLBI base is in units of 64 KiB (LPA2 and the regime's DS) */
+    uint64_t unit64k;  /* flag: a TLBI base is in units of 64 KiB (LPA2 and the regime's DS); it decides nothing for TLBIP */
 };
 
 /* An operand by its fields. */
@@ -191,48 +216,48 @@ struct chickadoor_fields {
     uint64_t tg;     /* enum chickadoor_granule */
     uint64_t scale;  /* 0 to 3 */
     uint64_t num;    /* 0 to 31: (num + 1) * 2^(5 * scale + 1) granules */
-    uint64_t ttl;    /* 0 any level, 1 to 3 */
+    uint64_t ttl;    /* 0 any level, 1 to 3 that level; 1 with 16K and no LPA2 is read as 0 and not written */
     uint64_t base;   /* first address */
 };
 
 /* Records for further values. */
 struct chickadoor_inserted {
-    uint64_t slot;
+    uint64_t slot;      /* counted from 0 */
 };
 struct chickadoor_found {
-    uint64_t slot;
-    uint64_t output;
-    uint64_t examined;
-};
-struct chickadoor_executed {
-    uint64_t dropped;
-    uint64_t trap;
-};
-struct chickadoor_ran {
-    uint64_t dropped;
-    uint64_t step;
-};
-struct chickadoor_judged {
-    uint64_t step;
-    struct chickadoor_entry survivor;
+    uint64_t slot;      /* counted from 0 */
+    uint64_t output;    /* the output word of the slot */
+    uint64_t examined;  /* how many slots were examined: the slot plus one, or all */
 };
 struct chickadoor_slot {
     struct chickadoor_entry entry;
     uint64_t output;
 };
+struct chickadoor_executed {
+    uint64_t dropped;   /* how many entries went */
+    uint64_t trap;      /* exception class: 0x18 or 0x14 */
+};
+struct chickadoor_ran {
+    uint64_t dropped;   /* how many entries went, by all steps together */
+    uint64_t step;      /* counted from 0 */
+};
+struct chickadoor_judged {
+    struct chickadoor_entry survivor;
+    uint64_t step;      /* counted from 0 */
+};
 struct chickadoor_words {
     uint64_t xt;
-    uint64_t xt2;
+    uint64_t xt2;       /* 0 for TLBI */
 };
 struct chickadoor_built {
     uint64_t word;
 };
 struct chickadoor_listed {
-    uint64_t used;
-    uint64_t written;
+    uint64_t used;      /* bytes of code */
+    uint64_t written;   /* bytes of text */
 };
 struct chickadoor_tailed {
-    uint64_t written;
+    uint64_t written;   /* bytes of text */
 };
 
 /* A table has 0 to 2,048 slots of three words: base, tag, output word. All zeros is an empty table. A slot that insert could not have written is an empty
@@ -250,7 +275,7 @@ uint32_t chickadoor_look_up(const uint64_t *table, size_t words, struct chickado
 
 /* Reads a slot back.
  * Answers: BAD_SHAPE, BREAKS_RULE (there is no such slot), NOT_FOUND (it is empty), DONE (entry, output). */
-uint32_t chickadoor_read_slot(const uint64_t *table, size_t words, uint64_t slot, struct chickadoor_slot *out);
+uint32_t chickadoor_read_slot(const uint64_t *table, size_t words, size_t slot, struct chickadoor_slot *out);
 
 /* Carries out one instruction word with its registers: drops the entries that Arm's pages require to go, and no other. xt2 is read for TLBIP only; with
  * register 31 both count as zero, and with register 30 xt2 does.
@@ -289,7 +314,7 @@ uint32_t chickadoor_write_operand(struct chickadoor_told told, struct chickadoor
 uint32_t chickadoor_list(const uint8_t *code, size_t code_bytes, uint64_t at, uint8_t *text, size_t text_bytes, struct chickadoor_listed *out);
 
 /* Writes the line about `left` bytes behind the last whole word: nothing for 0. Answers: DONE (written). */
-uint32_t chickadoor_tail(uint64_t left, uint8_t *text, size_t text_bytes, struct chickadoor_tailed *out);
+uint32_t chickadoor_tail(size_t left, uint8_t *text, size_t text_bytes, struct chickadoor_tailed *out);
 
 #ifdef __cplusplus
 }

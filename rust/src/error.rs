@@ -2,50 +2,84 @@
 use crate::entry::Entry;
 use std::fmt;
 
+/// Why an entry was not inserted.
 #[derive(Clone, Copy, Debug, PartialEq, Eq)]
 pub enum InsertError {
+    /// The table's words are no multiple of three, or more than 6,144.
     BadShape,
+    /// The entry breaks a rule.
     Illegal,
+    /// No slot is free.
     Full,
 }
 
+/// Why an address was not found.
 #[derive(Clone, Copy, Debug, PartialEq, Eq)]
 pub enum LookUpError {
+    /// The table's words are no multiple of three, or more than 6,144.
     BadShape,
+    /// The processor state cannot be.
     BadState,
-    NotFound { examined: u64 },
+    /// No slot matches.
+    NotFound {
+        /// How many slots were examined: all.
+        examined: usize,
+    },
 }
 
+/// Why an instruction was not carried out.
 #[derive(Clone, Copy, Debug, PartialEq, Eq)]
 pub enum ExecuteError {
+    /// The table's words are no multiple of three, or more than 6,144.
     BadShape,
+    /// The processor state cannot be.
     BadState,
+    /// The word is none of the operations.
     Unknown,
+    /// The instruction is UNDEFINED in this state.
     Undefined,
-    /// To EL2, with the exception class: 0x18 for TLBI, 0x14 for TLBIP.
+    /// It traps to EL2, with the exception class: 0x18 for TLBI, 0x14 for TLBIP.
     Trapped(u8),
+    /// It ends without effect.
     NoEffect,
+    /// The operand's TG is 00.
     NoGranule,
+    /// The range is UNPREDICTABLE: its base is not aligned as its TTL asks.
     Unpredictable,
 }
 
+/// Why a list was not run.
 #[derive(Clone, Copy, Debug, PartialEq, Eq)]
 pub enum RunError {
+    /// The table has a number of words that none can have, or the list more than 16 steps.
     BadShape,
+    /// The processor state cannot be.
     BadState,
-    Refused { step: u64 },
+    /// A step would not be done.
+    Refused {
+        /// The first such step, counted from 0.
+        step: usize,
+    },
 }
 
+/// Why a list was not accepted.
 #[derive(Clone, Copy, Debug, PartialEq, Eq)]
 pub enum JudgeError {
+    /// The list has more than 16 steps.
     BadShape,
+    /// The processor state cannot be.
     BadState,
+    /// The target breaks a rule.
     BadTarget,
+    /// A step would not be done.
     Refused {
-        step: u64,
+        /// The first such step, counted from 0.
+        step: usize,
     },
+    /// A step touches somebody else than the target's company.
     Outside {
-        step: u64,
+        /// The first such step, counted from 0.
+        step: usize,
     },
     /// An entry of the target that the list would leave.
     Gap(Entry),
@@ -80,11 +114,11 @@ impl fmt::Display for ExecuteError {
             ExecuteError::BadShape => f.write_str(BAD_SHAPE),
             ExecuteError::BadState => f.write_str(BAD_STATE),
             ExecuteError::Unknown => f.write_str("the word is none of the operations"),
-            ExecuteError::Undefined => f.write_str("UNDEFINED"),
-            ExecuteError::Trapped(class) => write!(f, "trapped to EL2, exception class {:#x}", class),
-            ExecuteError::NoEffect => f.write_str("ends without effect"),
-            ExecuteError::NoGranule => f.write_str("the operand names no granule (TG is 00)"),
-            ExecuteError::Unpredictable => f.write_str("the range is UNPREDICTABLE"),
+            ExecuteError::Undefined => f.write_str("it is UNDEFINED"),
+            ExecuteError::Trapped(class) => write!(f, "it is trapped to EL2, exception class {:#x}", class),
+            ExecuteError::NoEffect => f.write_str("it ends without effect"),
+            ExecuteError::NoGranule => f.write_str("its operand names no granule: TG is 00"),
+            ExecuteError::Unpredictable => f.write_str("its range is UNPREDICTABLE: the base is not aligned as its TTL asks"),
         }
     }
 }

@@ -12,7 +12,7 @@ extern "C" {
         address: u64,
         out: *mut raw::Found,
     ) -> u32;
-    pub fn chickadoor_read_slot(table: *const u64, words: usize, slot: u64, out: *mut raw::Slot) -> u32;
+    pub fn chickadoor_read_slot(table: *const u64, words: usize, slot: usize, out: *mut raw::Slot) -> u32;
     pub fn chickadoor_execute(
         table: *mut u64,
         words: usize,
@@ -30,5 +30,5 @@ extern "C" {
     pub fn chickadoor_read_operand(told: raw::Told, xt: u64, xt2: u64, out: *mut raw::Fields) -> u32;
     pub fn chickadoor_write_operand(told: raw::Told, fields: raw::Fields, out: *mut raw::Words) -> u32;
     pub fn chickadoor_list(code: *const u8, code_bytes: usize, at: u64, text: *mut u8, text_bytes: usize, out: *mut raw::Listed) -> u32;
-    pub fn chickadoor_tail(left: u64, text: *mut u8, text_bytes: usize, out: *mut raw::Tailed) -> u32;
+    pub fn chickadoor_tail(left: usize, text: *mut u8, text_bytes: usize, out: *mut raw::Tailed) -> u32;
 }

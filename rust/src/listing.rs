@@ -11,7 +11,7 @@ pub fn list(code: &[u8]) -> String {
         lines.extend_from_slice(&text[..listed.written as usize]);
         done += listed.used as usize;
     }
-    let (_, tailed) = raw::call::tail((code.len() - done) as u64, &mut text);
+    let (_, tailed) = raw::call::tail(code.len() - done, &mut text);
     lines.extend_from_slice(&text[..tailed.written as usize]);
     lines.into_iter().map(char::from).collect()
 }

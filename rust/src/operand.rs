@@ -6,47 +6,60 @@ use std::fmt;
 /// What an operand holds, by the operation and its regime.
 #[derive(Clone, Copy, Debug, PartialEq, Eq, Hash)]
 pub enum Form {
+    /// Stage 1 of EL1&0 and EL2&0 with an ASID: RVAE1, RVALE1, and E2 names under EL2&0.
     TwoRangesAsid,
+    /// The same without one: RVAAE1, RVAALE1.
     TwoRanges,
+    /// EL2 and EL3.
     OneRange,
+    /// RIPAS2 in the Secure state, with NS.
     Stage2Ns,
+    /// RIPAS2 otherwise.
     Stage2,
 }
 
 /// What the reader and the writer are told.
 #[derive(Clone, Copy, Debug, PartialEq, Eq, Hash)]
 pub struct Told {
+    /// TLBIP, else TLBI.
     pub tlbip: bool,
+    /// What the operand holds.
     pub form: Form,
+    /// LPA2 is there.
     pub lpa2: bool,
-    /// A TLBI base is in units of 64 KiB.
+    /// A TLBI base is in units of 64 KiB: LPA2 and the regime's DS.
     pub unit64k: bool,
 }
 
 /// An operand by its fields.
 #[derive(Clone, Copy, Debug, PartialEq, Eq, Hash)]
 pub struct Operand {
+    /// The ASID; 0 where the form has none.
     pub asid: u16,
+    /// NS; false where the form has none.
     pub ns: bool,
+    /// The granule, TG.
     pub granule: Granule,
-    /// 0 to 3.
+    /// SCALE, 0 to 3.
     pub scale: u8,
-    /// 0 to 31.
+    /// NUM, 0 to 31: the range has (NUM + 1) * 2^(5 * SCALE + 1) granules.
     pub num: u8,
-    /// 0 to 3.
+    /// TTL: 0 any level, 1 to 3 that level; 1 with 16 KiB and no LPA2 is read as 0 and not written.
     pub ttl: u8,
+    /// The first address of the range.
     pub base: u64,
 }
 
-/// TG is 00.
+/// Why an operand was not read: TG is 00.
 #[derive(Clone, Copy, Debug, PartialEq, Eq)]
 pub struct NoGranule;
 
-/// A field does not fit or is one that the form lacks, the hint reads as none, or the base cannot be shown.
+/// Why an operand was not written: a field does not fit or is one that the form lacks, the hint reads as none, or the base cannot be shown.
 #[derive(Clone, Copy, Debug, PartialEq, Eq)]
 pub struct BreaksRule;
 
 impl Told {
+    /// The operand that the words Xt and Xt2 hold; Xt2 is read for TLBIP only.
     pub fn read(&self, xt: u64, xt2: u64) -> Result<Operand, NoGranule> {
         match raw::call::read_operand(self.into(), xt, xt2) {
             (0, fields) => Operand::from_raw(&fields).ok_or(NoGranule),

@@ -1,12 +1,19 @@
-//! The records of `include/chickadoor.h`, field by field: plain integers, so that every bit pattern is a value.
+//! The records of `include/chickadoor.h`, field by field, and its functions: plain integers, so that every bit pattern is a value. The header says what each
+//! means.
+#![allow(missing_docs)]
 
-/// The processor state. Flags are 0 or 1; any other value makes the state bad (answer 2), like an exception level over 3.
+/// Which of the upper exception levels there are.
 #[repr(C)]
 #[derive(Clone, Copy, Debug, Default, PartialEq, Eq)]
-pub struct State {
-    pub el: u8,
+pub struct Present {
     pub el2: u8,
     pub el3: u8,
+}
+
+/// FEAT_*.
+#[repr(C)]
+#[derive(Clone, Copy, Debug, Default, PartialEq, Eq)]
+pub struct Features {
     pub tlbirange: u8,
     pub tlbios: u8,
     pub d128: u8,
@@ -16,53 +23,112 @@ pub struct State {
     pub sel2: u8,
     pub fgt: u8,
     pub hcx: u8,
-    pub scr_ns: u8,
-    pub scr_nse: u8,
-    pub scr_eel2: u8,
-    pub scr_fgten: u8,
-    pub scr_hxen: u8,
-    pub hcr_e2h: u8,
-    pub hcr_tge: u8,
-    pub hcr_ttlb: u8,
-    pub hcr_ttlbis: u8,
-    pub hcr_ttlbos: u8,
-    pub hcr_nv: u8,
-    pub hcrx_fnxs: u8,
-    pub hcrx_fgtnxs: u8,
-    pub trap_rvae1: u8,
-    pub trap_rvae1is: u8,
-    pub trap_rvae1os: u8,
-    pub trap_rvaae1: u8,
-    pub trap_rvaae1is: u8,
-    pub trap_rvaae1os: u8,
-    pub trap_rvale1: u8,
-    pub trap_rvale1is: u8,
-    pub trap_rvale1os: u8,
-    pub trap_rvaale1: u8,
-    pub trap_rvaale1is: u8,
-    pub trap_rvaale1os: u8,
-    pub ds_el1: u8,
-    pub ds_el2: u8,
-    pub ds_el3: u8,
-    pub ds_stage2: u8,
+}
+
+/// SCR_EL3.
+#[repr(C)]
+#[derive(Clone, Copy, Debug, Default, PartialEq, Eq)]
+pub struct Scr {
+    pub ns: u8,
+    pub nse: u8,
+    pub eel2: u8,
+    pub fgten: u8,
+    pub hxen: u8,
+}
+
+/// HCR_EL2.
+#[repr(C)]
+#[derive(Clone, Copy, Debug, Default, PartialEq, Eq)]
+pub struct Hcr {
+    pub e2h: u8,
+    pub tge: u8,
+    pub ttlb: u8,
+    pub ttlbis: u8,
+    pub ttlbos: u8,
+    pub nv: u8,
+}
+
+/// HCRX_EL2.
+#[repr(C)]
+#[derive(Clone, Copy, Debug, Default, PartialEq, Eq)]
+pub struct Hcrx {
+    pub fnxs: u8,
+    pub fgtnxs: u8,
+}
+
+/// One flag for each shareability.
+#[repr(C)]
+#[derive(Clone, Copy, Debug, Default, PartialEq, Eq)]
+pub struct Flags {
+    pub local: u8,
+    pub inner: u8,
+    pub outer: u8,
+}
+
+/// The fine-grained traps of HFGITR_EL2.
+#[repr(C)]
+#[derive(Clone, Copy, Debug, Default, PartialEq, Eq)]
+pub struct Traps {
+    pub rvae1: Flags,
+    pub rvaae1: Flags,
+    pub rvale1: Flags,
+    pub rvaale1: Flags,
+}
+
+/// DS of TCR_EL1, TCR_EL2, TCR_EL3 and VTCR_EL2.
+#[repr(C)]
+#[derive(Clone, Copy, Debug, Default, PartialEq, Eq)]
+pub struct Ds {
+    pub el1: u8,
+    pub el2: u8,
+    pub el3: u8,
+    pub stage2: u8,
+}
+
+/// The processors of a board.
+#[repr(C)]
+#[derive(Clone, Copy, Debug, Default, PartialEq, Eq)]
+pub struct Board {
     pub own: u8,
     pub count: u8,
     pub inner: [u8; 8],
     pub outer: [u8; 8],
+}
+
+/// The processor state. Flags are 0 or 1; any other value makes the state bad (answer 2), like an exception level over 3.
+#[repr(C)]
+#[derive(Clone, Copy, Debug, Default, PartialEq, Eq)]
+pub struct State {
+    pub el: u8,
+    pub present: Present,
+    pub features: Features,
+    pub scr: Scr,
+    pub hcr: Hcr,
+    pub hcrx: Hcrx,
+    pub traps: Traps,
+    pub ds: Ds,
+    pub board: Board,
     pub vmid: u16,
 }
 
-/// An entry: regime 0 EL1&0, 1 EL2&0, 2 EL2, 3 EL3; security 0 Secure, 1 Non-secure, 2 Realm, 3 Root; granule 1 4K, 2 16K, 3 64K;
-/// `stage2`, `ns`, `global`, `wide` (128-bit), `leaf` and `xs` are 0 or 1; level -1 to 3. Any other value makes it illegal (answer 8).
+/// Whose an entry is: regime 0 EL1&0, 1 EL2&0, 2 EL2, 3 EL3; security 0 Secure, 1 Non-secure, 2 Realm, 3 Root; `stage2` and `ns` are 0 or 1.
 #[repr(C)]
 #[derive(Clone, Copy, Debug, Default, PartialEq, Eq)]
-pub struct Entry {
-    pub processor: u64,
+pub struct Company {
     pub regime: u64,
     pub security: u64,
     pub vmid: u64,
     pub stage2: u64,
     pub ns: u64,
+}
+
+/// An entry: granule 1 4K, 2 16K, 3 64K; `global`, `wide` (128-bit), `leaf` and `xs` are 0 or 1; level -1 to 3. Any other value makes it illegal
+/// (answer 8).
+#[repr(C)]
+#[derive(Clone, Copy, Debug, Default, PartialEq, Eq)]
+pub struct Entry {
+    pub processor: u64,
+    pub company: Company,
     pub asid: u64,
     pub global: u64,
     pub wide: u64,
@@ -77,11 +143,7 @@ pub struct Entry {
 #[repr(C)]
 #[derive(Clone, Copy, Debug, Default, PartialEq, Eq)]
 pub struct Target {
-    pub regime: u64,
-    pub security: u64,
-    pub vmid: u64,
-    pub stage2: u64,
-    pub ns: u64,
+    pub company: Company,
     pub wide: u64,
     pub granule: u64,
     pub one: u64,
@@ -166,8 +228,8 @@ pub struct Ran {
 #[repr(C)]
 #[derive(Clone, Copy, Debug, Default, PartialEq, Eq)]
 pub struct Judged {
-    pub step: u64,
     pub survivor: Entry,
+    pub step: u64,
 }
 
 #[repr(C)]
@@ -214,7 +276,7 @@ pub mod call {
         (answer, out)
     }
 
-    pub fn read_slot(table: &[u64], slot: u64) -> (u32, Slot) {
+    pub fn read_slot(table: &[u64], slot: usize) -> (u32, Slot) {
         let mut out = Slot::default();
         let answer = unsafe { ffi::chickadoor_read_slot(table.as_ptr(), table.len(), slot, &mut out) };
         (answer, out)
@@ -268,7 +330,7 @@ pub mod call {
         (answer, out)
     }
 
-    pub fn tail(left: u64, text: &mut [u8]) -> (u32, Tailed) {
+    pub fn tail(left: usize, text: &mut [u8]) -> (u32, Tailed) {
         let mut out = Tailed::default();
         let answer = unsafe { ffi::chickadoor_tail(left, text.as_mut_ptr(), text.len(), &mut out) };
         (answer, out)

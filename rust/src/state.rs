@@ -3,6 +3,7 @@ use crate::raw;
 
 /// Which of the upper exception levels there are.
 #[derive(Clone, Copy, Debug, Default, PartialEq, Eq)]
+#[allow(missing_docs)]
 pub struct Present {
     pub el2: bool,
     pub el3: bool,
@@ -10,6 +11,7 @@ pub struct Present {
 
 /// The features that the rules ask for, by the names of FEAT_*.
 #[derive(Clone, Copy, Debug, Default, PartialEq, Eq)]
+#[allow(missing_docs)]
 pub struct Features {
     pub tlbirange: bool,
     pub tlbios: bool,
@@ -22,8 +24,9 @@ pub struct Features {
     pub hcx: bool,
 }
 
-/// SCR_EL3.
+/// SCR_EL3. It is not read without EL3.
 #[derive(Clone, Copy, Debug, Default, PartialEq, Eq)]
+#[allow(missing_docs)]
 pub struct Scr {
     pub ns: bool,
     pub nse: bool,
@@ -32,8 +35,9 @@ pub struct Scr {
     pub hxen: bool,
 }
 
-/// HCR_EL2.
+/// HCR_EL2. Its bits count as 0 while EL2 is disabled.
 #[derive(Clone, Copy, Debug, Default, PartialEq, Eq)]
+#[allow(missing_docs)]
 pub struct Hcr {
     pub e2h: bool,
     pub tge: bool,
@@ -45,6 +49,7 @@ pub struct Hcr {
 
 /// HCRX_EL2.
 #[derive(Clone, Copy, Debug, Default, PartialEq, Eq)]
+#[allow(missing_docs)]
 pub struct Hcrx {
     pub fnxs: bool,
     pub fgtnxs: bool,
@@ -53,13 +58,17 @@ pub struct Hcrx {
 /// One trap flag for each shareability.
 #[derive(Clone, Copy, Debug, Default, PartialEq, Eq)]
 pub struct Flags {
+    /// Of the name by itself.
     pub local: bool,
+    /// Of the name with IS.
     pub inner: bool,
+    /// Of the name with OS.
     pub outer: bool,
 }
 
 /// The fine-grained traps of HFGITR_EL2.
 #[derive(Clone, Copy, Debug, Default, PartialEq, Eq)]
+#[allow(missing_docs)]
 pub struct Traps {
     pub rvae1: Flags,
     pub rvaae1: Flags,
@@ -69,6 +78,7 @@ pub struct Traps {
 
 /// DS of TCR_EL1, TCR_EL2, TCR_EL3 and VTCR_EL2.
 #[derive(Clone, Copy, Debug, Default, PartialEq, Eq)]
+#[allow(missing_docs)]
 pub struct Ds {
     pub el1: bool,
     pub el2: bool,
@@ -76,86 +86,87 @@ pub struct Ds {
     pub stage2: bool,
 }
 
-/// The own number, how many processors there are (1 to 8), and their shareability domains.
+/// The processors of a board. The default is one, in domain 0.
 #[derive(Clone, Copy, Debug, PartialEq, Eq)]
 pub struct Board {
+    /// The number of the processor that runs the instruction, below the count.
     pub own: u8,
+    /// How many there are, 1 to 8.
     pub count: u8,
+    /// The inner shareable domain of each; any number names one. Those at or above the count are not read.
     pub inner: [u8; 8],
+    /// The outer shareable domain of each. Processors of one inner domain are of one outer domain.
     pub outer: [u8; 8],
 }
 
-/// One processor, in domain 0.
 impl Default for Board {
     fn default() -> Self {
         Board { own: 0, count: 1, inner: [0; 8], outer: [0; 8] }
     }
 }
 
-/// The state of the processor that runs an instruction. The default is EL0 of one processor with no feature.
+/// The state of the processor that runs an instruction. The default is EL0 of one processor with no feature. `include/chickadoor.h` says which states
+/// cannot be.
 #[derive(Clone, Copy, Debug, Default, PartialEq, Eq)]
 pub struct State {
+    /// The current exception level, 0 to 3.
     pub el: u8,
+    /// The exception levels that there are besides EL0 and EL1.
     pub present: Present,
+    /// The features that there are.
     pub features: Features,
+    /// SCR_EL3.
     pub scr: Scr,
+    /// HCR_EL2.
     pub hcr: Hcr,
+    /// HCRX_EL2.
     pub hcrx: Hcrx,
+    /// HFGITR_EL2.
     pub traps: Traps,
+    /// DS of each regime.
     pub ds: Ds,
+    /// VTTBR_EL2.VMID; it counts as 0 while EL2 is disabled.
     pub vmid: u16,
+    /// The processors.
     pub board: Board,
+}
+
+/// Each flag as a byte.
+macro_rules! flags {
+    ($($record:ident { $($field:ident),* })*) => {
+        $(impl From<$record> for raw::$record {
+            fn from(record: $record) -> Self {
+                raw::$record { $($field: record.$field.into()),* }
+            }
+        })*
+    };
+}
+
+flags! {
+    Present { el2, el3 }
+    Features { tlbirange, tlbios, d128, xs, lpa2, rme, sel2, fgt, hcx }
+    Scr { ns, nse, eel2, fgten, hxen }
+    Hcr { e2h, tge, ttlb, ttlbis, ttlbos, nv }
+    Hcrx { fnxs, fgtnxs }
+    Flags { local, inner, outer }
+    Ds { el1, el2, el3, stage2 }
+    Traps { rvae1, rvaae1, rvale1, rvaale1 }
 }
 
 impl From<&State> for raw::State {
     fn from(state: &State) -> Self {
         let State { el, present, features, scr, hcr, hcrx, traps, ds, vmid, board } = *state;
+        let Board { own, count, inner, outer } = board;
         raw::State {
             el,
-            el2: present.el2.into(),
-            el3: present.el3.into(),
-            tlbirange: features.tlbirange.into(),
-            tlbios: features.tlbios.into(),
-            d128: features.d128.into(),
-            xs: features.xs.into(),
-            lpa2: features.lpa2.into(),
-            rme: features.rme.into(),
-            sel2: features.sel2.into(),
-            fgt: features.fgt.into(),
-            hcx: features.hcx.into(),
-            scr_ns: scr.ns.into(),
-            scr_nse: scr.nse.into(),
-            scr_eel2: scr.eel2.into(),
-            scr_fgten: scr.fgten.into(),
-            scr_hxen: scr.hxen.into(),
-            hcr_e2h: hcr.e2h.into(),
-            hcr_tge: hcr.tge.into(),
-            hcr_ttlb: hcr.ttlb.into(),
-            hcr_ttlbis: hcr.ttlbis.into(),
-            hcr_ttlbos: hcr.ttlbos.into(),
-            hcr_nv: hcr.nv.into(),
-            hcrx_fnxs: hcrx.fnxs.into(),
-            hcrx_fgtnxs: hcrx.fgtnxs.into(),
-            trap_rvae1: traps.rvae1.local.into(),
-            trap_rvae1is: traps.rvae1.inner.into(),
-            trap_rvae1os: traps.rvae1.outer.into(),
-            trap_rvaae1: traps.rvaae1.local.into(),
-            trap_rvaae1is: traps.rvaae1.inner.into(),
-            trap_rvaae1os: traps.rvaae1.outer.into(),
-            trap_rvale1: traps.rvale1.local.into(),
-            trap_rvale1is: traps.rvale1.inner.into(),
-            trap_rvale1os: traps.rvale1.outer.into(),
-            trap_rvaale1: traps.rvaale1.local.into(),
-            trap_rvaale1is: traps.rvaale1.inner.into(),
-            trap_rvaale1os: traps.rvaale1.outer.into(),
-            ds_el1: ds.el1.into(),
-            ds_el2: ds.el2.into(),
-            ds_el3: ds.el3.into(),
-            ds_stage2: ds.stage2.into(),
-            own: board.own,
-            count: board.count,
-            inner: board.inner,
-            outer: board.outer,
+            present: present.into(),
+            features: features.into(),
+            scr: scr.into(),
+            hcr: hcr.into(),
+            hcrx: hcrx.into(),
+            traps: traps.into(),
+            ds: ds.into(),
+            board: raw::Board { own, count, inner, outer },
             vmid,
         }
     }

@@ -34,6 +34,7 @@ impl fmt::Display for Granule {
     }
 }
 
+/// As in "Non-secure EL1&0 of VMID 7" or "Secure EL1&0 of VMID 0, stage 2 (NS)".
 impl fmt::Display for Company {
     fn fmt(&self, f: &mut fmt::Formatter<'_>) -> fmt::Result {
         write!(f, "{} {}", self.security, self.regime)?;
@@ -48,17 +49,19 @@ impl fmt::Display for Company {
     }
 }
 
-/// As in "a 4 KiB level 3 leaf at 0x40002000 of processor 0, Non-secure EL1&0 of VMID 7, ASID 0".
+/// As in "a 64-bit level 3 leaf at 0x40002000 (4 KiB granule) on processor 0, of Non-secure EL1&0 of VMID 7, ASID 0, XS 1".
 impl fmt::Display for Entry {
     fn fmt(&self, f: &mut fmt::Formatter<'_>) -> fmt::Result {
+        let width = if self.wide { "128" } else { "64" };
         let kind = if self.leaf { "leaf" } else { "table entry" };
-        let width = if self.wide { "128-bit " } else { "" };
-        write!(f, "a {}{} level {} {} at {:#x} of processor {}", width, self.granule, self.level, kind, self.base, self.processor)?;
-        write!(f, ", {}", self.company)?;
-        match (self.company.stage2, self.company.regime) {
-            (false, Regime::El10) | (false, Regime::El20) if self.global => f.write_str(", global"),
-            (false, Regime::El10) | (false, Regime::El20) => write!(f, ", ASID {}", self.asid),
-            _ => Ok(()),
+        write!(f, "a {}-bit level {} {} at {:#x} ({} granule)", width, self.level, kind, self.base, self.granule)?;
+        write!(f, " on processor {}, of {}", self.processor, self.company)?;
+        if self.company.has_asids() {
+            write!(f, ", ASID {}", self.asid)?;
         }
+        if self.global {
+            f.write_str(", global")?;
+        }
+        write!(f, ", XS {}", u8::from(self.xs))
     }
 }

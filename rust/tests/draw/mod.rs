@@ -1,5 +1,5 @@
 //! Inputs drawn from a seed: mostly sensible and close to each other, so that rules decide, and now and then damaged.
-use chickadoor::raw::{Entry, Fields, Operation, State, Target, Told};
+use crate::plain::record::{Entry, Fields, Operation, State, Target, Told};
 
 pub struct Draw(u64);
 
@@ -110,29 +110,63 @@ fn traps(d: &mut Draw, state: &mut State) {
     }
 }
 
-/// One field with a value of its own: a flag that is none, a level or a count too high, a domain of another kind.
+/// One byte with a value of its own: a flag that is none, a level or a count too high, a domain of another kind.
 fn damage(d: &mut Draw, state: &mut State) {
     let value = d.pick(&[2, 3, 4, 8, 9, 128, 255]);
-    let place = d.below(16) as usize;
-    let field = match place {
-        0 => &mut state.el,
-        1 => &mut state.el2,
-        2 => &mut state.tlbirange,
-        3 => &mut state.hcx,
-        4 => &mut state.scr_ns,
-        5 => &mut state.scr_hxen,
-        6 => &mut state.hcr_e2h,
-        7 => &mut state.hcr_nv,
-        8 => &mut state.hcrx_fgtnxs,
-        9 => &mut state.trap_rvae1,
-        10 => &mut state.trap_rvaale1os,
-        11 => &mut state.ds_stage2,
-        12 => &mut state.own,
-        13 => &mut state.count,
-        14 => &mut state.inner[(value % 8) as usize],
-        _ => &mut state.outer[(value % 8) as usize],
-    };
-    *field = value;
+    let mut bytes = bytes(state);
+    let place = d.below(bytes.len() as u64) as usize;
+    *bytes[place] = value;
+}
+
+/// Everything in a state that is a byte.
+fn bytes(s: &mut State) -> Vec<&mut u8> {
+    let mut bytes = vec![
+        &mut s.el,
+        &mut s.el2,
+        &mut s.el3,
+        &mut s.tlbirange,
+        &mut s.tlbios,
+        &mut s.d128,
+        &mut s.xs,
+        &mut s.lpa2,
+        &mut s.rme,
+        &mut s.sel2,
+        &mut s.fgt,
+        &mut s.hcx,
+        &mut s.scr_ns,
+        &mut s.scr_nse,
+        &mut s.scr_eel2,
+        &mut s.scr_fgten,
+        &mut s.scr_hxen,
+        &mut s.hcr_e2h,
+        &mut s.hcr_tge,
+        &mut s.hcr_ttlb,
+        &mut s.hcr_ttlbis,
+        &mut s.hcr_ttlbos,
+        &mut s.hcr_nv,
+        &mut s.hcrx_fnxs,
+        &mut s.hcrx_fgtnxs,
+        &mut s.trap_rvae1,
+        &mut s.trap_rvae1is,
+        &mut s.trap_rvae1os,
+        &mut s.trap_rvaae1,
+        &mut s.trap_rvaae1is,
+        &mut s.trap_rvaae1os,
+        &mut s.trap_rvale1,
+        &mut s.trap_rvale1is,
+        &mut s.trap_rvale1os,
+        &mut s.trap_rvaale1,
+        &mut s.trap_rvaale1is,
+        &mut s.trap_rvaale1os,
+        &mut s.ds_el1,
+        &mut s.ds_el2,
+        &mut s.ds_el3,
+        &mut s.ds_stage2,
+        &mut s.own,
+        &mut s.count,
+    ];
+    bytes.extend(s.inner.iter_mut().chain(s.outer.iter_mut()));
+    bytes
 }
 
 pub fn operation(d: &mut Draw) -> Operation {
@@ -170,9 +204,22 @@ pub fn told(d: &mut Draw) -> Told {
     told
 }
 
+/// Where addresses lie: low, in the middle, and about 2^55, 2^56 and 2^64, where halves end.
+const REGIONS: [u64; 9] = [
+    0,
+    0x4000_0000,
+    0x4000_0000,
+    0x0040_0000_0000_0000,
+    0x007f_ffff_c000_0000,
+    0x0080_0000_0000_0000,
+    0x00ff_ffff_c000_0000,
+    0xff80_0000_0000_0000,
+    0xffff_ffff_c000_0000,
+];
+
 /// An address at or near the start of a region that entries, ranges and targets share.
 pub fn address(d: &mut Draw) -> u64 {
-    let region = d.pick(&[0, 0x4000_0000, 0x4000_0000, 0x0040_0000_0000_0000, 0xff80_0000_0000_0000, 0xffff_ffff_c000_0000]);
+    let region = d.pick(&REGIONS);
     let step = d.pick(&[12u64, 14, 16, 20, 21, 24, 25, 28, 30, 36]);
     region + (d.below(8) << step) % 0x4000_0000
 }

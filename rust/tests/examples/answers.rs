@@ -1,7 +1,7 @@
 //! READINGS 1: sources, answers, order of checks.
 
 use super::*;
-use chickadoor::raw::{Found, Inserted, Ran};
+use crate::plain::record::{Found, Inserted, Ran};
 
 const UNKNOWN: u64 = 0xD503_201F;
 
@@ -156,7 +156,7 @@ fn a_run_sums_what_its_steps_drop() {
     assert_eq!(table[6], 0x4000_4000);
 }
 
-/// "Look up: 13, 2, 14"; the task adds 8 between 2 and 14 "for a regime over 3 or an ASID over 0xffff".
+/// "Look up: 13, 2, 14"; the header adds 8 between 2 and 14 for "a regime that is none". An ASID over 0xffff is refused with it, which the header's 16 bits cannot hold.
 #[test]
 fn a_lookup_of_no_regime_is_8() {
     let table = table_of(&[page(0)]);

@@ -1,7 +1,7 @@
 //! Values that a field cannot have, and inputs of any bits: nothing panics, and every answer but 0 leaves the table and the record alone.
 
 use super::*;
-use chickadoor::raw::{Fields, Found, Inserted, Listed, Operation, Ran, Slot, Told};
+use crate::plain::record::{Fields, Found, Inserted, Listed, Operation, Ran, Slot, Told};
 
 /// "a flag in State that is not 0 or 1 makes the state bad (2)".
 #[test]

@@ -1,7 +1,7 @@
 //! READINGS 5: entries and what goes.
 
 use super::*;
-use chickadoor::raw::Slot;
+use crate::plain::record::Slot;
 
 const PAGE: u64 = 0x4000_0000;
 

@@ -1,7 +1,7 @@
 //! READINGS 7: listing.
 
 use super::*;
-use chickadoor::raw::Listed;
+use crate::plain::record::Listed;
 
 fn code(words: &[u32]) -> Vec<u8> {
     words.iter().flat_map(|word| word.to_le_bytes()).collect()
@@ -69,7 +69,7 @@ fn every_name() {
     }
 }
 
-/// 7.4: "Offsets pass 2^32 on long input"; the task: "offsets modulo 2^64".
+/// 7.4: "Offsets pass 2^32 on long input"; they count modulo 2^64.
 #[test]
 fn r7_4_offsets() {
     let bytes = code(&[0xD508_8260, 0xD508_8260]);
@@ -78,7 +78,7 @@ fn r7_4_offsets() {
     assert_eq!(at(u64::MAX - 3), "18446744073709551612 TLBI RVAAE1IS, X0\n0 TLBI RVAAE1IS, X0\n");
 }
 
-/// The task: "stop before the first line that does not fit; words that are not listed count as used".
+/// The header: "up to the last whole word or to the first line that does not fit". Words that are not listed count as used.
 #[test]
 fn lines_that_do_not_fit() {
     let bytes = code(&[0xD503_201F, 0xD508_8260, 0xD503_201F, 0xD508_8261, 0xD503_201F]);

@@ -12,7 +12,7 @@ mod state;
 mod words;
 
 use crate::plain;
-use chickadoor::raw::{Entry, Executed, Judged, State, Target};
+use crate::plain::record::{Entry, Executed, Judged, State, Target};
 
 pub const RVAAE1IS: u64 = 0xD508_8260;
 /// m1's operand: 0x40000000 to 0x40001FFF, 4K, TTL 00.

@@ -1,7 +1,7 @@
 //! READINGS 4: operands.
 
 use super::*;
-use chickadoor::raw::{Fields, Told, Words};
+use crate::plain::record::{Fields, Told, Words};
 
 const TLBI: Told = Told { tlbip: 0, form: 1, lpa2: 0, unit64k: 0 };
 const TLBIP: Told = Told { tlbip: 1, ..TLBI };

@@ -1,7 +1,7 @@
 //! READINGS 2: instruction words.
 
 use super::*;
-use chickadoor::raw::Operation;
+use crate::plain::record::Operation;
 
 /// 2.1: "120 (name, share, nxs, TLBI/TLBIP) rows x 32 Rt = 3,840 words"; each is built again from what it reads as.
 #[test]

@@ -1,7 +1,7 @@
 //! Entries: the company that each belongs to, the rules that make one legal, and the addresses that it spans.
 
+use super::record::Entry;
 use super::span::{below, exponent};
-use chickadoor::raw::Entry;
 
 pub const REGIME_EL10: u64 = 0;
 pub const REGIME_EL20: u64 = 1;

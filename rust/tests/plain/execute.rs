@@ -4,10 +4,10 @@ use super::answer;
 use super::entry::{Company, REGIME_EL10, REGIME_EL2, REGIME_EL20, REGIME_EL3, SECURE};
 use super::goes::Effect;
 use super::operand::{fields, is_unpredictable, last, ONE_RANGE, STAGE_2, STAGE_2_WITH_NS, TWO_RANGES, TWO_RANGES_WITH_ASID};
+use super::record::{Executed, Operation, Ran, State, Told};
 use super::slot::{granule_tag, read, shape_is_good, GRANULE_BITS, WORDS};
 use super::state::{e2h, e2h_and_tge, el2_enabled, hcrx_live, is_good, reached, security_in, trap_flag, unit_64k, vmid_in};
 use super::words::{family, leaves_only, odd_pair, operation, Family, IS, OS, RVAE1, RVALE1};
-use chickadoor::raw::{Executed, Operation, Ran, State, Told};
 
 const MOST_LIST_WORDS: usize = 48;
 

@@ -1,7 +1,7 @@
 //! What an operation that is carried out drops: 01's "An entry goes exactly when all hold", condition by condition.
 
 use super::entry::{last_address, Company};
-use chickadoor::raw::Entry;
+use super::record::Entry;
 
 /// An operation that has passed every check, with its operand read.
 #[derive(Clone, Copy, Debug)]

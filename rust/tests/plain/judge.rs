@@ -4,9 +4,9 @@ use super::answer;
 use super::entry::Company;
 use super::execute::{effects, list_shape_is_good};
 use super::goes::Effect;
+use super::record::{Entry, Judged, State, Target};
 use super::span::{below, exponent};
 use super::state::is_good;
-use chickadoor::raw::{Entry, Judged, State, Target};
 
 /// "non-leaf levels rising, then leaf levels rising": leaf or not, and the level.
 const KINDS: [(u64, i64); 7] = [(0, -1), (0, 0), (0, 1), (0, 2), (1, 1), (1, 2), (1, 3)];

@@ -1,7 +1,7 @@
 //! The listing program's text: one line for each operation in A64 code, and the line for the bytes left over.
 
+use super::record::{Listed, Operation};
 use super::words::{odd_pair, operation, IS, LOCAL, RIPAS2E1, RVAAE1, RVAALE1, RVAE1, RVAE2, RVAE3, RVALE1, RVALE2, RVALE3};
-use chickadoor::raw::{Listed, Operation};
 
 /// The lines of the whole words of `code`, whose first byte has the offset `at`, up to the first that does not fit into `room` bytes.
 pub fn list(code: &[u8], at: u64, room: usize) -> (Listed, Vec<u8>) {

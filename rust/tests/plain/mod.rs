@@ -9,6 +9,7 @@ mod goes;
 mod judge;
 mod listing;
 mod operand;
+pub mod record;
 mod slot;
 mod span;
 mod state;

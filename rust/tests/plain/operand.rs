@@ -1,8 +1,8 @@
 //! Operands: reading and writing their fields, their length, and where the range is UNPREDICTABLE.
 
 use super::answer;
+use super::record::{Fields, Told, Words};
 use super::span::{below, exponent, granule_exponent};
-use chickadoor::raw::{Fields, Told, Words};
 
 pub const TWO_RANGES_WITH_ASID: u64 = 0;
 pub const TWO_RANGES: u64 = 1;

@@ -1,7 +1,7 @@
 //! The layout of a slot (docs/TAG.md): base, tag, output word. What is not exactly the tag of a legal entry reads as empty.
 
 use super::entry::{is_legal, Company};
-use chickadoor::raw::Entry;
+use super::record::Entry;
 
 pub const WORDS: usize = 3;
 pub const MOST_WORDS: usize = 6144;

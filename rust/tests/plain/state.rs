@@ -1,8 +1,8 @@
 //! The processor state: whether it is good, and what it says about EL2, security, VMID, HCRX, the base's unit and the reach.
 
 use super::entry::{NON_SECURE, REALM, REGIME_EL10, REGIME_EL2, REGIME_EL20, ROOT, SECURE};
+use super::record::State;
 use super::words::{IS, LOCAL, RVAAE1, RVAE1, RVALE1};
-use chickadoor::raw::State;
 
 pub fn is_good(s: &State) -> bool {
     flags(s).iter().all(|&flag| flag <= 1) && level_fits(s) && security_fits(s) && processors_fit(s)

@@ -2,9 +2,9 @@
 
 use super::answer;
 use super::entry::{is_legal, last_address, Company, REGIME_EL3};
+use super::record::{Entry, Found, Inserted, Slot, State};
 use super::slot::{company_tag, read, shape_is_good, tag, COMPANY_BITS, WORDS};
 use super::state::{is_good, security_in, vmid_in};
-use chickadoor::raw::{Entry, Found, Inserted, Slot, State};
 
 pub fn insert(table: &mut [u64], entry: &Entry, output: u64) -> (u32, Inserted) {
     if !shape_is_good(table) {

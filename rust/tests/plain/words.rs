@@ -1,7 +1,7 @@
 //! Instruction words: reading one as an operation, building one from an operation, and what a name says about itself.
 
 use super::answer;
-use chickadoor::raw::Operation;
+use super::record::Operation;
 
 const SYS: u64 = 0xD508_0000;
 const SYSP: u64 = 0xD548_0000;

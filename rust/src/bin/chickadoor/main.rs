@@ -1,36 +1,45 @@
 //! Judges a text of operations: reads a state, a target and steps in plain words, and says accepted, or why not.
 //!
-//! `chickadoor FILE`, or the text on standard input. The exit status is 0 for accepted, 1 for refused, 2 for a text that cannot be read.
+//! `chickadoor --help` says how the text is written. The exit status is 0 for accepted, 1 for refused, 2 for a text that cannot be read.
+#[cfg(test)]
+mod draw;
+mod faults;
 mod phrase;
+mod refusals;
 mod report;
+mod source;
 mod state_text;
 mod step_text;
 mod target_text;
 mod text;
 
-use std::io::Read;
+use std::ffi::OsString;
+use std::io::Write;
 use std::process::exit;
 
+const HELP: &str = concat!(include_str!("help.txt"), include_str!("example.txt"));
+
 fn main() {
-    let read = match std::env::args().nth(1) {
-        Some(name) => std::fs::read_to_string(&name).map_err(|error| format!("{}: {}", name, error)),
-        None => standard_input(),
-    };
-    match read.and_then(|source| text::parse(&source)) {
+    let names: Vec<OsString> = std::env::args_os().skip(1).collect();
+    if names.iter().any(|name| name == "--help" || name == "-h") {
+        say(HELP);
+        return;
+    }
+    match source::read(&names).and_then(|sources| text::parse(&sources)) {
         Ok(text) => {
             let (accepted, words) = report::judge(&text);
-            println!("{}", words);
+            say(&words);
+            say("\n");
             exit(if accepted { 0 } else { 1 });
         }
         Err(message) => {
-            eprintln!("{}", message);
+            let _ = writeln!(std::io::stderr(), "{}", message);
             exit(2);
         }
     }
 }
 
-fn standard_input() -> Result<String, String> {
-    let mut source = String::new();
-    std::io::stdin().read_to_string(&mut source).map_err(|error| format!("standard input: {}", error))?;
-    Ok(source)
+/// That nobody reads the words changes nothing of the verdict, which the exit status has.
+fn say(text: &str) {
+    let _ = std::io::stdout().write_all(text.as_bytes());
 }

@@ -1,12 +1,13 @@
-//! The lines of a text: `state:` and `target:` with phrases, `X0 = VALUE`, steps, comments.
-use crate::state_text;
+//! The lines of a text: `state:` and `target:` with phrases, `X0 = VALUE`, steps.
+use crate::source::{Place, Source};
+use crate::state_text::StateText;
 use crate::step_text::{self, Registers};
-use crate::target_text::{self, TargetText};
+use crate::target_text::TargetText;
 use chickadoor::{State, Step, Target};
 
 /// A step, and the line it stands in.
 pub struct Line {
-    pub number: usize,
+    pub place: Place,
     pub words: String,
     pub step: Step,
 }
@@ -17,30 +18,48 @@ pub struct Text {
     pub steps: Vec<Line>,
 }
 
-pub fn parse(source: &str) -> Result<Text, String> {
-    let mut state = None;
-    let mut target = None;
-    let mut steps = Vec::new();
-    let mut registers = Registers::default();
-    for (place, line) in source.lines().enumerate() {
-        let line = line.split('#').next().unwrap_or("").trim();
-        let told = |message: String| format!("line {}: {}", place + 1, message);
-        if line.is_empty() || line.starts_with("tail ") {
-            continue;
-        } else if let Some(phrases) = after(line, "state:") {
-            state_text::add(state.get_or_insert_with(State::default), phrases).map_err(told)?;
-        } else if let Some(phrases) = after(line, "target:") {
-            target_text::add(target.get_or_insert_with(TargetText::default), phrases).map_err(told)?;
-        } else if line.contains('=') {
-            registers.set(line).map_err(told)?;
-        } else {
-            let step = step_text::parse(line, &registers).map_err(told)?;
-            steps.push(Line { number: place + 1, words: line.to_string(), step });
-        }
+#[derive(Default)]
+struct Reader {
+    state: Option<(Place, StateText)>,
+    target: Option<(Place, TargetText)>,
+    registers: Registers,
+    steps: Vec<Line>,
+}
+
+pub fn parse(sources: &[Source]) -> Result<Text, String> {
+    let mut reader = Reader::default();
+    for source in sources {
+        source.each_line(|place, line| reader.read(place, line))?;
     }
-    let state = state.ok_or("the text has no line `state: ...`")?;
-    let target = target.ok_or("the text has no line `target: ...`")?.finish()?;
-    Ok(Text { state, target, steps })
+    let (place, state) = reader.state.ok_or_else(|| missing("state"))?;
+    let state = state.finish().map_err(|message| format!("{}: {}", place, message))?;
+    let (place, target) = reader.target.ok_or_else(|| missing("target"))?;
+    let target = target.finish(&state.board).map_err(|message| format!("{}: {}", place, message))?;
+    Ok(Text { state, target, steps: reader.steps })
+}
+
+fn missing(what: &str) -> String {
+    format!("expected a line `{}: ...`, and found none: `chickadoor --help` says how a text is written", what)
+}
+
+impl Reader {
+    fn read(&mut self, place: &Place, line: &str) -> Result<(), String> {
+        if let Some(phrases) = after(line, "state:") {
+            return self.state.get_or_insert_with(|| (place.clone(), StateText::default())).1.add(phrases);
+        }
+        if let Some(phrases) = after(line, "target:") {
+            return self.target.get_or_insert_with(|| (place.clone(), TargetText::default())).1.add(phrases);
+        }
+        if step_text::is_tail(line) {
+            return Ok(());
+        }
+        if line.contains('=') {
+            return self.registers.set(line);
+        }
+        let step = step_text::parse(line, &self.registers)?;
+        self.steps.push(Line { place: place.clone(), words: line.to_string(), step });
+        Ok(())
+    }
 }
 
 fn after<'a>(line: &'a str, word: &str) -> Option<&'a str> {
