@@ -129,8 +129,8 @@ struct chickadoor_board {
  *
  * A state is bad if a flag is neither 0 nor 1; el is over 3; el is 2 and EL2 absent or disabled; el is 3 and EL3 absent; RME is there without EL3; RME is
  * there and scr.nse, scr.ns are 1, 0; board.count is not 1 to 8; board.own is not below it; or two processors below the count share an inner and not the
- * outer domain. EL2 is enabled if it is present and the security state is not Secure, or features.sel2 and scr.eel2 are 1. The security state is Non-secure
- * without EL3; else scr.ns, and with RME scr.nse and scr.ns, give it (0, 0 Secure; 0, 1 Non-secure; 1, 1 Realm). */
+ * outer domain. EL2 is enabled if it is present and either the security state is not Secure or features.sel2 and scr.eel2 are both 1. The security state is
+ * Non-secure without EL3; else scr.ns, and with RME scr.nse and scr.ns, give it (0, 0 Secure; 0, 1 Non-secure; 1, 1 Realm). */
 struct chickadoor_state {
     uint8_t el;  /* current exception level, 0 to 3 */
     struct chickadoor_present present;
