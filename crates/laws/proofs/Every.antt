@@ -1,12 +1,14 @@
 -- A test at every number below a bound: what it says, and a rule over every number proved by one test that is computed.
 use Prim.Native.Nat.{ℕ, zero, suc, _+_, _<_, _≤_}
-use mathlib.Core.Bool.{Bool, true, _&&_}
+use mathlib.Core.Bool.{Bool, true, false, _&&_}
 use mathlib.Core.Path.{_≡_, refl, subst, sym, ap, _∙_}
 use native.Mathlib.Decide.{ℕ-discrete}
 use native.Mathlib.Nat.{not-suc-le-zero}
 use native.Mathlib.Numerals.{add-one}
 use native.Mathlib.Omega.{arith}
-use Rattle.laws.proofs.Truth.{and-0, and-1}
+use lib.Dec.{ltb}
+use borrow.Author.Tests.{ltb-true, ltb-false}
+use Rattle.laws.proofs.Truth.{and-0, and-1, clash}
 use Rattle.laws.specs.Every.{every}
 
 -- where the test holds at every number below n, it holds at each of them
@@ -42,3 +44,28 @@ every-more f n r b p q = simp (add-one, p, q)
 
 pub every-end : (f : ℕ → Bool) (j n : ℕ) (b : Bool) → b ≡ every f j → j ≤ n → n ≤ j → b ≡ every f n
 every-end f j n b p h k = let e : j ≡ n = omega arith in p ∙ ap (every f) e
+
+-- a test of two numbers that holds of one and itself, and both ways or neither: each number against those below it is enough
+pub every-half : (f : ℕ → ℕ → Bool) → ((p : ℕ) → f p p ≡ true) → ((p q : ℕ) → f p q ≡ true → f q p ≡ true) → (n : ℕ) →
+    every (λ p. every (f p) p) n ≡ every (λ p. every (f p) n) n
+every-half f own turned n = go (every (λ p. every (f p) p) n) refl (every (λ p. every (f p) n) n) refl
+  where
+    below : every (λ p. every (f p) p) n ≡ true → (p q : ℕ) → p < n → q < p → f p q ≡ true
+    below h p q hp hq = at (f p) p (at (λ (m : ℕ). every (f m) m) n h p hp) q hq
+
+    either : every (λ p. every (f p) p) n ≡ true → (p q : ℕ) → p < n → q < n → Dec (p ≡ q) → (b : Bool) → ltb q p ≡ b → f p q ≡ true
+    either h p q hp hq (yes e) b x = subst (λ (m : ℕ). f p m ≡ true) e (own p)
+    either h p q hp hq (no d) true x = below h p q hp (ltb-true q p x)
+    either h p q hp hq (no d) false x = turned q p (below h q p hq (omega (arith, ltb-false q p x)))
+
+    full : every (λ p. every (f p) p) n ≡ true → every (λ p. every (f p) n) n ≡ true
+    full h = each (λ (p : ℕ). every (f p) n) n (λ (p : ℕ) (hp : p < n). each (f p) n (λ (q : ℕ) (hq : q < n). either h p q hp hq (ℕ-discrete p q) (ltb q p) refl))
+
+    part : every (λ p. every (f p) n) n ≡ true → every (λ p. every (f p) p) n ≡ true
+    part h = each (λ (p : ℕ). every (f p) p) n (λ (p : ℕ) (hp : p < n). each (f p) p (λ (q : ℕ) (hq : q < p). at (f p) n (at (λ (m : ℕ). every (f m) n) n h p hp) q (omega arith)))
+
+    go : (a : Bool) → every (λ p. every (f p) p) n ≡ a → (b : Bool) → every (λ p. every (f p) n) n ≡ b → a ≡ b
+    go true x true y = refl
+    go false x false y = refl
+    go true x false y = clash (full x) y
+    go false x true y = clash (part y) x

@@ -1,14 +1,16 @@
 -- What a state that is not bad says, and the rule on domains in words.
 use Prim.Native.Nat.{ℕ, _<_, _≤_}
 use mathlib.Core.Bool.{Bool, true, false, not, _&&_, _||_}
-use mathlib.Core.Path.{_≡_, refl}
+use mathlib.Core.List.{List}
+use mathlib.Core.Path.{_≡_, refl, sym}
 use native.Mathlib.Omega.{arith}
 use lib.Dec.{eqb, ltb, leb}
+use lib.ListN.{getD}
 use borrow.Author.Tests.{eq-eqb, eqb-true, ltb-false, leb-false, le-ltb, lt-leb, not-false}
-use Rattle.laws.proofs.Every.{at, each}
+use Rattle.laws.proofs.Every.{at, each, every-half}
 use Rattle.laws.proofs.Truth.{or-0, or-1}
 use Rattle.laws.specs.Every.{every}
-use Rattle.machine.specs.State.{el2Enabled, innerOf, outerOf, agree, domainsAgree, badBoard, badFields, badState}
+use Rattle.machine.specs.State.{el2Enabled, innerOf, outerOf, agreeBy, agree, domainsAgree, badBoard, badFields, badState}
 use Rattle.machine.specs.declared.processor.Board.{Board}
 use Rattle.machine.specs.declared.processor.State.{State}
 
@@ -23,6 +25,23 @@ agree-says false o h e = absurd (let z : _≡_ {A = ℕ} 0 1 = cc in omega arith
 agree-made : (i o : Bool) → (i ≡ true → o ≡ true) → (not i || o) ≡ true
 agree-made true o h = h refl
 agree-made false o h = refl
+
+-- each processor held against those below it is enough, since the rule is the same both ways
+pub domains-half : (inner outer : List ℕ) (n : ℕ) → every (λ p. every (agreeBy inner outer p) p) n ≡ every (λ p. every (agreeBy inner outer p) n) n
+domains-half inner outer n = every-half (agreeBy inner outer) own turned n
+  where
+    own : (p : ℕ) → agreeBy inner outer p p ≡ true
+    own p = simp (eq-eqb (getD inner p 0) (getD inner p 0) refl, eq-eqb (getD outer p 0) (getD outer p 0) refl)
+
+    same : (a b : ℕ) → eqb a b ≡ true → eqb b a ≡ true
+    same a b e = eq-eqb b a (sym (eqb-true a b e))
+
+    turned : (p q : ℕ) → agreeBy inner outer p q ≡ true → agreeBy inner outer q p ≡ true
+    turned p q h =
+        let i = eqb (getD inner p 0) (getD inner q 0) in
+        let o = eqb (getD outer p 0) (getD outer q 0) in
+        agree-made (eqb (getD inner q 0) (getD inner p 0)) (eqb (getD outer q 0) (getD outer p 0))
+        (λ (e : eqb (getD inner q 0) (getD inner p 0) ≡ true). same (getD outer p 0) (getD outer q 0) (agree-says i o h (same (getD inner q 0) (getD inner p 0) e)))
 
 -- the computed rule says so of every two processors
 pub agreed : (b : Board) → domainsAgree b ≡ true → Agreed b

@@ -71,8 +71,11 @@ abbrev pub outerOf : Board → ℕ → ℕ
 outerOf b p = getD (b .outer) p 0
 
 -- processors p and q are not "in one inner and different outer domains"
+abbrev pub agreeBy : List ℕ → List ℕ → ℕ → ℕ → Bool
+agreeBy inner outer p q = not (eqb (getD inner p 0) (getD inner q 0)) || eqb (getD outer p 0) (getD outer q 0)
+
 abbrev pub agree : Board → ℕ → ℕ → Bool
-agree b p q = not (eqb (innerOf b p) (innerOf b q)) || eqb (outerOf b p) (outerOf b q)
+agree b p q = agreeBy (b .inner) (b .outer) p q
 
 -- no "two processors in one inner and different outer domains (only those below the count are read)"
 unfoldable pub domainsAgree : Board → Bool

@@ -1,8 +1,10 @@
 // The board: how many processors there are, and whether their domains agree.
 ghost use mathlib.Core.Path.{_≡_};
+ghost use mathlib.Core.Bool.{not};
+ghost use Prim.Native.Nat.{_<_, _≤_};
 ghost use lib.ListN.{getD};
 ghost use Rattle.laws.specs.Every.{every};
-ghost use Rattle.machine.specs.State.{agree, domainsAgree, badBoard};
+ghost use Rattle.machine.specs.State.{agreeBy, badBoard};
 use machine::Board;
 
 pub fn is_bad_board(board: Board) -> bool
@@ -17,42 +19,45 @@ pub fn is_bad_board(board: Board) -> bool
     if board.count <= board.own {
         return true;
     }
-    !domains_agree(board)
+    let inner = board.inner;
+    let outer = board.outer;
+    domains_clash(&inner, &outer, board.count)
 }
 
-// No two processors below the count are in one inner and different outer domains.
-fn domains_agree(board: Board) -> bool
-    ensures { λ r. ⌜ r ≡ domainsAgree board ⌝ }
+// Whether two processors below the count are in one inner and different outer domains: each is held against those below it.
+fn domains_clash(inner: &[u8; 8], outer: &[u8; 8], count: u8) -> bool
+    requires { ⌜ count ≤ 8 ⌝ }
+    ensures { λ r. ⌜ r ≡ not (every (λ p. every (agreeBy (now (inner .entry)) (now (outer .entry)) p) p) count) ⌝ }
 {
     let mut good = true;
     let mut p = 0;
-    while p < board.count {
-        good = agrees_with_all(board, p) & good;
+    while p < count {
+        good = agrees_below(inner, outer, p) & good;
         p += 1;
     }
-    good
+    !good
 }
 
-fn agrees_with_all(board: Board, p: u8) -> bool
-    ensures { λ r. ⌜ r ≡ every (agree board p) (board .count) ⌝ }
+fn agrees_below(inner: &[u8; 8], outer: &[u8; 8], p: u8) -> bool
+    requires { ⌜ p < 8 ⌝ }
+    ensures { λ r. ⌜ r ≡ every (agreeBy (now (inner .entry)) (now (outer .entry)) p) p ⌝ }
 {
     let mut good = true;
     let mut q = 0;
-    while q < board.count {
-        good = agrees(board, p, q) & good;
+    while q < p {
+        good = agrees(inner, outer, p, q) & good;
         q += 1;
     }
     good
 }
 
-fn agrees(board: Board, p: u8, q: u8) -> bool
-    ensures { λ r. ⌜ r ≡ agree board p q ⌝ }
+fn agrees(inner: &[u8; 8], outer: &[u8; 8], p: u8, q: u8) -> bool
+    requires { ⌜ (p < 8) × (q < 8) ⌝ }
+    ensures { λ r. ⌜ r ≡ agreeBy (now (inner .entry)) (now (outer .entry)) p q ⌝ }
 {
-    let inner = board.inner;
-    let outer = board.outer;
-    let same_inner = domain_at(inner, p) == domain_at(inner, q);
-    let same_outer = domain_at(outer, p) == domain_at(outer, q);
-    !same_inner | same_outer
+    let i = p as usize;
+    let j = q as usize;
+    (inner[i] != inner[j]) | (outer[i] == outer[j])
 }
 
 // A number past the last has domain 0, so that any number gets an answer.
