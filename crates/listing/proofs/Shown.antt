@@ -11,7 +11,7 @@ use borrow.Author.Tests.{le-leb, lt-leb}
 use Rattle.machine.specs.declared.operation.Operation.{Operation}
 use Rattle.machine.specs.declared.operation.Decoded.{Decoded}
 use Rattle.machine.specs.declared.operation.Decoded.the-variants.{Known, Unknown}
-use Rattle.machine.specs.Word.{readOf}
+use Rattle.machine.specs.Word.{isFixed, readOf}
 use Rattle.machine.specs.Listing.{isListed, lineOf, shownAs, lineAt, tailOf, tailWritten}
 
 pub line-listed : (at w : ℕ) (op : Operation) → readOf w ≡ Known op → isListed op ≡ true → at < 2 ^ 64 → lineOf at op ≡ lineAt at w
@@ -25,6 +25,11 @@ line-unlisted at w op h l = sym (rw (h, l))
 pub line-unknown : (at w : ℕ) → readOf w ≡ Unknown → [] ≡ lineAt at w
 unfolding lineAt
 line-unknown at w h = sym (rw h)
+
+-- a word with other fixed bits has no line
+pub line-loose : (at w : ℕ) → isFixed w ≡ false → [] ≡ lineAt at w
+unfolding readOf
+line-loose at w h = line-unknown at w (simp h)
 
 -- an offset and what is left of it modulo 2^64 give the same line
 pub line-mod : (at w : ℕ) → lineAt (at % 2 ^ 64) w ≡ lineAt at w

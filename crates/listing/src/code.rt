@@ -83,6 +83,9 @@ fn put_word(out: &mut [u8], at: u64, word: u64) -> usize
     requires { ⌜ 52 ≤ length (now out) ⌝ }
     ensures { λ r. ⌜ Put (now (out .entry)) 0 (now (out .exit)) r (lineAt at word) 52 ⌝ }
 {
+    if !OperationWord::is_fixed(word) {
+        return 0;
+    }
     let read = OperationWord { bits: word }.read();
     match read {
         Decoded::Known(op) => {

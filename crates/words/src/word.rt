@@ -1,8 +1,8 @@
-// The operation word type: SYS and SYSP are its constants, `read` and `build` its functions.
+// The operation word type: SYS and SYSP are its constants, `is_fixed`, `read` and `build` its functions.
 ghost use mathlib.Core.Path.{_≡_};
 ghost use mathlib.Core.Bool.{cond};
 ghost use Prim.Native.Nat.{_≤_};
-ghost use Rattle.machine.specs.Word.{readOf, builtOf};
+ghost use Rattle.machine.specs.Word.{isFixed, readOf, builtOf};
 use crate::numbers::crm_of;
 use crate::numbers::family_of;
 use crate::numbers::op1_of;
@@ -22,16 +22,23 @@ impl OperationWord {
 
     pub const SYSP: u64 = 0xD548_0000;
 
+    // The fixed bits of SYS or SYSP, and a CRn of 8 or 9. Most words of a program have others.
+    pub fn is_fixed(word: u64) -> bool
+        ensures { λ r. ⌜ r ≡ isFixed word ⌝ }
+    {
+        let fixed = word / 524288 * 524288;
+        let crn = word / 4096 % 16;
+        ((fixed == OperationWord::SYS) | (fixed == OperationWord::SYSP)) & ((crn == 8) | (crn == 9))
+    }
+
     // Any number gets an answer: 2^32 or more has other fixed bits.
     pub fn read(self) -> Decoded
         ensures { λ r. ⌜ r ≡ readOf (self .bits) ⌝ }
     {
         let word = self.bits;
-        let fixed = word / 524288 * 524288;
-        let crn = word / 4096 % 16;
-        let tlbip = fixed == OperationWord::SYSP;
-        let nxs = crn == 9;
-        if ((fixed == OperationWord::SYS) | tlbip) & ((crn == 8) | nxs) {
+        let tlbip = word / 524288 * 524288 == OperationWord::SYSP;
+        let nxs = word / 4096 % 16 == 9;
+        if OperationWord::is_fixed(word) {
             let row = row_of(
                 (word / 65536 % 8) as u8,
                 (word / 256 % 16) as u8,
