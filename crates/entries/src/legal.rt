@@ -13,7 +13,7 @@ use spans::exponent_of;
 use spans::has_span;
 use spans::is_multiple;
 
-fn is_placed(leaf: bool, level: i8, global: bool) -> bool
+pub fn is_placed(leaf: bool, level: i8, global: bool) -> bool
     ensures { λ r. ⌜ r ≡ isPlaced leaf level global ⌝ }
 {
     if leaf {

@@ -16,7 +16,7 @@ fn index_bits(wide: bool, tg: u64) -> u64
 }
 
 pub fn exponent_at(wide: bool, tg: u64, height: u64) -> u64
-    requires { ⌜ (tg ≤ 3) × (height ≤ 4) ⌝ }
+    requires { ⌜ (tg ≤ 3) × (height ≤ 7) ⌝ }
     ensures { λ r. ⌜ (r ≡ exponentAt wide tg height) × (r ≤ 16 + 13 * height) ⌝ }
 {
     let bits = index_bits(wide, tg);

@@ -1,0 +1,103 @@
+-- What stands in a base and a tag, part by part: each part that breaks a rule makes the slot empty, and all parts together make it an entry.
+use Prim.Native.Nat.{ℕ, _/_, _%_, _^_, _<_, _≤_}
+use mathlib.Core.Bool.{Bool, true, false, not, _&&_, _||_}
+use mathlib.Core.Path.{_≡_, refl, sym, ap, ap₂, _∙_}
+use native.Mathlib.Nat.{mod-lt}
+use native.Mathlib.Omega.{arith}
+use lib.Dec.{eqb, leb}
+use lib.IntN.{ℤ, pos, negsuc}
+use borrow.Author.Tests.{leb-true, le-leb, eq-eqb, lt-ltb}
+use Rattle.laws.proofs.Truth.{and-0, and-1, not-so, clash}
+use Rattle.laws.specs.Bits.{bits}
+use Rattle.laws.specs.Mask.{bitOf}
+use Rattle.machine.proofs.Spans.{span-tg, span-most}
+use Rattle.machine.proofs.Tags.{Legal, legal, height-there, tag-whole, reads-written, entry-layout, entry-low}
+use Rattle.machine.specs.Entry.{isCompany, hasAsids, isPlaced, inReach, spanOf, isLegal}
+use Rattle.machine.specs.Span.{isLevel, exponentAt, exponentOf, hasSpan}
+use Rattle.machine.specs.Tag.{layout, tagOf, companyAt, entryAt, isEntry}
+
+-- the span that stands in a tag, by its numbers
+pub span-numbers : (tag : ℕ) → exponentAt (bitOf tag 45) (bits 27 26 tag) (bits 48 46 tag) ≡ spanOf (entryAt 0 tag)
+unfolding entryAt exponentOf
+span-numbers tag = ap (exponentAt (bitOf tag 45) (bits 27 26 tag)) (sym (height-there (bits 48 46 tag) (mod-lt (tag / 2 ^ 46) (omega arith))))
+
+-- what a slot that reads as an entry keeps
+pub entry-legal : (base tag : ℕ) → isEntry base tag ≡ true → Legal (entryAt base tag)
+entry-legal base tag h = legal (entryAt base tag) (reads-written base tag h .1)
+
+-- a slot that breaks a rule reads as empty
+pub no-layout : (base tag : ℕ) → (tag % 2 ^ 4 ≡ layout → ⊥) → isEntry base tag ≡ false
+no-layout base tag n = not-so (isEntry base tag) (λ (h : isEntry base tag ≡ true). n (entry-layout base tag h))
+
+pub no-span : (base tag : ℕ) → 54 < spanOf (entryAt 0 tag) → isEntry base tag ≡ false
+unfolding entryAt
+no-span base tag n =
+    not-so (isEntry base tag)
+    (λ (h : isEntry base tag ≡ true). let m : spanOf (entryAt 0 tag) ≤ 54 = span-most _ _ _ (entry-legal base tag h .span) in omega (arith, n, m))
+
+pub no-granule : (base tag : ℕ) → bits 27 26 tag ≡ 0 → isEntry base tag ≡ false
+unfolding entryAt
+no-granule base tag n =
+    not-so (isEntry base tag)
+    (λ (h : isEntry base tag ≡ true).
+    let g = bits 27 26 tag in
+    let m : 1 ≤ g = leb-true 1 g (and-0 (leb 1 g) (leb g 3) (span-tg _ _ _ (entry-legal base tag h .span))) in
+    omega (arith, n, m))
+
+pub no-more : (base tag : ℕ) → 2 ^ 54 ≤ tag → isEntry base tag ≡ false
+no-more base tag n = not-so (isEntry base tag) (λ (h : isEntry base tag ≡ true). omega (arith, n, entry-low base tag h))
+
+pub no-company : (base tag : ℕ) → isCompany (companyAt tag) ≡ false → isEntry base tag ≡ false
+unfolding entryAt
+no-company base tag n = not-so (isEntry base tag) (λ (h : isEntry base tag ≡ true). clash (entry-legal base tag h .company) n)
+
+pub no-place : (base tag : ℕ) → isPlaced (entryAt 0 tag .leaf) (entryAt 0 tag .level) (entryAt 0 tag .global) ≡ false → isEntry base tag ≡ false
+unfolding entryAt
+no-place base tag n = not-so (isEntry base tag) (λ (h : isEntry base tag ≡ true). clash (entry-legal base tag h .placed) n)
+
+pub no-multiple : (base tag : ℕ) → eqb (base % 2 ^ spanOf (entryAt 0 tag)) 0 ≡ false → isEntry base tag ≡ false
+unfolding entryAt
+no-multiple base tag n =
+    not-so (isEntry base tag) (λ (h : isEntry base tag ≡ true). clash (eq-eqb _ _ (entry-legal base tag h .multiple)) n)
+
+-- where an entry can stand there is a level
+placed-level : (leaf : Bool) (l : ℤ) (global : Bool) → isPlaced leaf l global ≡ true → isLevel l ≡ true
+unfolding isLevel
+placed-level true (pos n) global h = and-1 (leb 1 n) (leb n 3) h
+placed-level true (negsuc n) global h = absurd (let z : _≡_ {A = ℕ} 0 1 = cc in omega arith)
+placed-level false (pos n) global h =
+    le-leb n 3 (omega (arith, leb-true n 2 (and-0 (leb n 2) (not global) h)))
+placed-level false (negsuc n) global h = and-0 (leb n 0 && true) (not global) h
+
+-- a slot that keeps those rules is an entry exactly if it keeps the two that are left
+pub record Kept (base tag : ℕ) : Type 0 where
+  pub whole : tag % 2 ^ 4 ≡ layout
+  pub low : tag < 2 ^ 54
+  pub granule : 1 ≤ bits 27 26 tag
+  pub span : spanOf (entryAt 0 tag) ≤ 54
+  pub company : isCompany (companyAt tag) ≡ true
+  pub placed : isPlaced (entryAt 0 tag .leaf) (entryAt 0 tag .level) (entryAt 0 tag .global) ≡ true
+  pub multiple : eqb (base % 2 ^ spanOf (entryAt 0 tag)) 0 ≡ true
+
+pub kept : (base tag : ℕ) → Kept base tag →
+    isEntry base tag ≡ ((hasAsids (companyAt tag) || (eqb (bits 43 28 tag) 0 && not (bitOf tag 44))) && inReach (companyAt tag) base)
+unfolding isEntry isLegal entryAt hasSpan
+kept base tag k =
+    let g : bits 27 26 tag < 4 = mod-lt (tag / 2 ^ 26) (omega arith) in
+    let p : bits 53 51 tag < 8 = mod-lt (tag / 2 ^ 51) (omega arith) in
+    let e = entryAt base tag in
+    let spanned : hasSpan (e .wide) (e .granule) (e .level) ≡ true =
+    simp (
+      le-leb 1 (bits 27 26 tag) (k .granule),
+      le-leb (bits 27 26 tag) 3 (omega arith),
+      placed-level (e .leaf) (e .level) (e .global) (k .placed),
+      le-leb (spanOf e) 54 (k .span),
+    ) in
+    let wrote : eqb (tagOf e) tag ≡ true = tag-whole base tag ∙ simp (eq-eqb (tag % 2 ^ 4) layout (k .whole), lt-ltb tag (2 ^ 54) (k .low)) in
+    all (hasAsids (companyAt tag) || (eqb (bits 43 28 tag) 0 && not (bitOf tag 44))) (inReach (companyAt tag) base) (le-leb (bits 53 51 tag) 7 (omega arith)) (k .company) (k .placed) spanned (k .multiple) wrote
+  where
+    all : {p c l s m w : Bool} (a r : Bool) → p ≡ true → c ≡ true → l ≡ true → s ≡ true → m ≡ true → w ≡ true →
+        (p && c && a && l && (s && m) && r && w) ≡ (a && r)
+    all true true hp hc hl hs hm hw = simp (hp, hc, hl, hs, hm, hw)
+    all true false hp hc hl hs hm hw = simp (hp, hc, hl, hs, hm, hw)
+    all false r hp hc hl hs hm hw = simp (hp, hc)
