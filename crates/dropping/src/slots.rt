@@ -9,9 +9,10 @@ use machine::Work;
 use tags::company_tag;
 use tags::entry_at;
 use tags::is_entry;
+use tags::span_at;
 use works::goes;
 
-// Three zeros for each slot that is dropped, and how many there are.
+// Three zeros for each slot that is dropped, and how many there are. One compare turns away the slots of other companies and granules.
 pub fn drop_all(table: &mut [u64], work: Work) -> usize
     requires { ⌜ (length (now table) % 3 ≡ 0) × (work .granule ≤ 3) ⌝ }
     ensures { λ r. ⌜ r ≡ count (drops work) (now (table .entry)) ⌝ }
@@ -21,11 +22,13 @@ pub fn drop_all(table: &mut [u64], work: Work) -> usize
     let mut i = 0;
     let mut n = 0;
     while i < table.len() {
-        if is_dropped(key, work, table[i], table[i + 1]) {
-            table[i] = 0;
-            table[i + 1] = 0;
-            table[i + 2] = 0;
-            n += 1;
+        if table[i + 1] % 0x10000000 == key {
+            if is_dropped(work, table[i], table[i + 1]) {
+                table[i] = 0;
+                table[i + 1] = 0;
+                table[i + 2] = 0;
+                n += 1;
+            }
         }
         i += 3;
     }
@@ -41,12 +44,19 @@ fn key_of(work: Work) -> u64
     company_tag(company) + work.granule * 0x4000000
 }
 
-// One compare turns away the slots of other companies and granules.
-fn is_dropped(key: u64, work: Work, base: u64, tag: u64) -> bool
-    requires { ⌜ (key ≡ keyOf work) × (companyTag (work .company) < 2 ^ 26) × (work .company .vmid < 2 ^ 16) × (work .granule ≤ 3) ⌝ }
+// A slot with the key is turned away by its range before the rest of it is looked at.
+fn is_dropped(work: Work, base: u64, tag: u64) -> bool
+    requires { ⌜ (tag % 2 ^ 28 ≡ keyOf work) × (companyTag (work .company) < 2 ^ 26) × (work .company .vmid < 2 ^ 16) × (work .granule ≤ 3) ⌝ }
     ensures { λ r. ⌜ r ≡ drops work base tag 0 ⌝ }
 {
-    if tag % 0x10000000 != key {
+    if work.last < base {
+        return false;
+    }
+    let k = span_at(tag);
+    if 54 < k {
+        return false;
+    }
+    if base >> k < work.first >> k {
         return false;
     }
     if !is_entry(base, tag) {

@@ -1,12 +1,12 @@
 // Look up: the lowest slot that translates an address.
 ghost use Prim.Native.Nat.{_%_, _^_, _<_};
-ghost use mathlib.Core.Bool.{true};
+ghost use mathlib.Core.Bool.{true, _&&_};
 ghost use mathlib.Core.Path.{_≡_};
 ghost use lib.ListN.{length};
 ghost use Rattle.laws.specs.Slots.{first};
 ghost use Rattle.machine.specs.Entry.{isLegal};
 ghost use Rattle.machine.specs.Table.{stage1Of, holdsAddress, matches, lookedUpOf};
-ghost use Rattle.machine.specs.Tag.{layout, companyAt};
+ghost use Rattle.machine.specs.Tag.{layout, companyAt, entryAt, isEntry};
 use crate::shape::is_table;
 use entries::has_asids;
 use entries::span_of;
@@ -23,6 +23,7 @@ use spans::in_span;
 use tags::company_tag;
 use tags::entry_at;
 use tags::is_entry;
+use tags::span_at;
 
 pub fn look_up(table: &[u64], state: State, regime: Regime, asid: u16, address: u64) -> LookedUp
     ensures { λ r. ⌜ r ≡ lookedUpOf state regime asid address (now (table .entry)) ⌝ }
@@ -63,7 +64,8 @@ fn stage1_of(state: State, regime: Regime) -> Company
     }
 }
 
-// The lowest slot that matches, or the number of slots.
+// The lowest slot that matches, or the number of slots. The key is the part of a tag that says whose a slot is: one compare turns other
+// companies' slots away.
 fn first_match(table: &[u64], key: u64, own: u8, asid: u16, address: u64) -> usize
     requires { ⌜ (length (now table) % 3 ≡ 0) × (key % 2 ^ 4 ≡ layout) × (key < 2 ^ 26) ⌝ }
     ensures { λ r. ⌜ r ≡ first (matches (companyAt key) own asid address) (now (table .entry)) ⌝ }
@@ -71,8 +73,10 @@ fn first_match(table: &[u64], key: u64, own: u8, asid: u16, address: u64) -> usi
     let mut i = 0;
     let mut k = 0;
     while i < table.len() {
-        if is_match(key, own, asid, address, table[i], table[i + 1]) {
-            return k;
+        if table[i + 1] % 0x4000000 == key {
+            if is_match(own, asid, address, table[i], table[i + 1]) {
+                return k;
+            }
         }
         i += 3;
         k += 1;
@@ -80,12 +84,18 @@ fn first_match(table: &[u64], key: u64, own: u8, asid: u16, address: u64) -> usi
     k
 }
 
-// The key is the part of a tag that says whose a slot is: one compare turns other companies' slots away.
-fn is_match(key: u64, own: u8, asid: u16, address: u64, base: u64, tag: u64) -> bool
-    requires { ⌜ (key % 2 ^ 4 ≡ layout) × (key < 2 ^ 26) ⌝ }
-    ensures { λ r. ⌜ r ≡ matches (companyAt key) own asid address base tag 0 ⌝ }
+// Whether a slot translates the address. Its processor and its span turn most slots away before the rest is looked at.
+fn is_match(own: u8, asid: u16, address: u64, base: u64, tag: u64) -> bool
+    ensures { λ r. ⌜ r ≡ (isEntry base tag && holdsAddress own asid address (entryAt base tag)) ⌝ }
 {
-    if tag % 0x4000000 != key {
+    if tag / 0x8000000000000 != own as u64 {
+        return false;
+    }
+    let k = span_at(tag);
+    if 54 < k {
+        return false;
+    }
+    if base >> k != address >> k {
         return false;
     }
     if !is_entry(base, tag) {

@@ -1,11 +1,12 @@
 -- `dropping::slots::drop_all` meets its contract.
-use Prim.Native.Nat.{_-_}
+use Prim.Native.Nat.{_+_, _-_}
 use mathlib.Core.Logic.{⊎-elim}
 use mathlib.Core.Path.{sym, _∙_}
 use native.Mathlib.Omega.{arith}
-use lib.ListN.{length, length-set}
+use lib.ListN.{length, getD, length-set}
 use borrow.Author.Needs.{needs}
 use Rattle.laws.proofs.Clearing.{Clearing, clear-start, clear-drop, clear-keep, clear-end}
+use Rattle.machine.proofs.Going.{drop-other}
 use Rattle.machine.specs.Goes.{drops}
 use Rattle.dropping.proofs.slots.drop_all.Statement.{statement}
 use Rattle.dropping.proofs.slots.drop_all.Tie as tie
@@ -21,6 +22,15 @@ key-of-requires c κs = search needs
 
 loop-holds : tie.Need-loop-holds Inv-loop μ-loop
 loop-holds c = clear-start (drops (c .before .before .args .work)) (c .before .before .args .table .now) (c .before .before .pre .0)
+
+add-if1 : tie.Need-add-if1 Inv-loop μ-loop
+add-if1 c = search needs
+
+mul-if1 : tie.Need-mul-if1 Inv-loop μ-loop
+mul-if1 c = search needs
+
+slice-read-if1 : tie.Need-slice-read-if1 Inv-loop μ-loop
+slice-read-if1 c = search needs
 
 mul-is-dropped : tie.Need-mul-is-dropped Inv-loop μ-loop
 mul-is-dropped c = search needs
@@ -73,19 +83,23 @@ add-i c = search needs
 loop-again : tie.Need-loop-again Inv-loop μ-loop
 unfolding drops
 loop-again c =
-    let a = c .before .before .before .before .before .before .before .before .args in
-    let l = c .before .before .before .before .before .loop in
-    let h = sym (c .before .is-dropped .ensures) in
+    let w = c .before .before .before .before .before .before .args .work in
+    let t = c .before .before .before .before .before .before .args .table .now in
+    let l = c .before .before .before .loop in
+    let k = c .before .before .before .before .key-of .ensures in
+    let on = c .before .before .loop-test .taken in
     ⊎-elim
-    (λ w. rw (w .1, w .2) (clear-drop (drops (a .work)) (a .table .now) (l .table) (l .i) (l .n) (c .before .before .before .before .loop-test .taken) (l .inv) (h ∙ w .0 .taken)))
-    (λ w. rw (w .1, w .2) (clear-keep (drops (a .work)) (a .table .now) (l .table) (l .i) (l .n) (c .before .before .before .before .loop-test .taken) (l .inv) (h ∙ w .0 .left)))
+    (λ y. rw (y .5, y .6) (clear-drop (drops w) t (l .table) (l .i) (l .n) on (l .inv) (sym (y .3 .ensures) ∙ y .4 .taken)))
+    (⊎-elim
+    (λ y. rw (y .5, y .6) (clear-keep (drops w) t (l .table) (l .i) (l .n) on (l .inv) (sym (y .3 .ensures) ∙ y .4 .left)))
+    (λ y. rw (y .1, y .2) (clear-keep (drops w) t (l .table) (l .i) (l .n) on (l .inv) (drop-other w (getD (l .table) (l .i) 0) (getD (l .table) (l .i + 1) 0) 0 (λ e. y .0 .left (e ∙ sym (k .0))) (k .2)))))
     (c .if1 .came)
 
 loop-less : tie.Need-loop-less Inv-loop μ-loop
 loop-less c =
     let s = loop-again c in
-    let l = c .before .before .before .before .before .loop in
-    omega (arith, s .0, l .inv .0, c .before .before .before .before .loop-test .taken)
+    let l = c .before .before .before .loop in
+    omega (arith, s .0, l .inv .0, c .before .before .loop-test .taken)
 
 same-length : tie.Need-same-length Inv-loop μ-loop
 same-length c = search needs
@@ -104,6 +118,9 @@ drop-all-spec =
     μ-loop
     key-of-requires
     loop-holds
+    add-if1
+    mul-if1
+    slice-read-if1
     mul-is-dropped
     slice-read-is-dropped
     add-is-dropped

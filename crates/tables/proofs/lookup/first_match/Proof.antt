@@ -1,11 +1,14 @@
 -- `tables::lookup::first_match` meets its contract.
-use Prim.Native.Nat.{_-_}
+use Prim.Native.Nat.{_+_, _-_}
+use mathlib.Core.Logic.{⊎-elim}
 use mathlib.Core.Path.{sym, _∙_}
-use lib.ListN.{length}
+use lib.ListN.{length, getD}
 use borrow.Author.Needs.{needs}
 use Rattle.laws.proofs.Slots.{Seeking, seek-start, seek-on, seek-here, seek-end}
+use Rattle.machine.proofs.Found.{match-other}
 use Rattle.machine.specs.Table.{matches}
 use Rattle.machine.specs.Tag.{companyAt}
+use Rattle.tables.proofs.Elsewhere.{match-key}
 use Rattle.tables.proofs.lookup.first_match.Statement.{statement}
 use Rattle.tables.proofs.lookup.first_match.Tie as tie
 
@@ -17,6 +20,15 @@ abbrev μ-loop : tie.MeasureT-loop
 
 loop-holds : tie.Need-loop-holds Inv-loop μ-loop
 loop-holds c = seek-start (matches (companyAt (c .before .args .key)) (c .before .args .own) (c .before .args .asid) (c .before .args .address)) (c .before .args .table .now) (c .before .pre .0)
+
+add-if1 : tie.Need-add-if1 Inv-loop μ-loop
+add-if1 c = search needs
+
+mul-if1 : tie.Need-mul-if1 Inv-loop μ-loop
+mul-if1 c = search needs
+
+shared-slice-read-if1 : tie.Need-shared-slice-read-if1 Inv-loop μ-loop
+shared-slice-read-if1 c = search needs
 
 mul-is-match : tie.Need-mul-is-match Inv-loop μ-loop
 mul-is-match c = search needs
@@ -39,8 +51,12 @@ is-match-requires c κs = search needs
 returns : tie.Need-returns Inv-loop μ-loop
 unfolding matches
 returns c =
-    let a = c .before .before .before .before .before .before .before .args in
-    seek-here (matches (companyAt (a .key)) (a .own) (a .asid) (a .address)) (a .table .now) (c .before .before .before .before .before .loop .i) (c .before .before .before .before .before .loop .k) (c .before .before .before .before .loop-test .taken) (c .before .before .before .before .before .loop .inv) (sym (c .before .is-match .ensures) ∙ c .if1 .taken)
+    let a = c .before .before .before .before .before .before .before .before .before .args in
+    let p = c .before .before .before .before .before .before .before .before .before .pre in
+    let l = c .before .before .before .before .before .before .before .loop in
+    let t = a .table .now in
+    let key = match-key (a .key) (a .own) (a .asid) (a .address) (getD t (l .i) 0) (getD t (l .i + 1) 0) 0 (p .1) (p .2) (c .before .before .before .before .if1 .taken) in
+    seek-here (matches (companyAt (a .key)) (a .own) (a .asid) (a .address)) t (l .i) (l .k) (c .before .before .before .before .before .before .loop-test .taken) (l .inv) (sym key ∙ sym (c .before .is-match .ensures) ∙ c .if2 .taken)
 
 add-i : tie.Need-add-i Inv-loop μ-loop
 add-i c = search needs
@@ -54,8 +70,18 @@ loop-less c = search needs
 loop-again : tie.Need-loop-again Inv-loop μ-loop
 unfolding matches
 loop-again c =
-    let a = c .before .before .before .before .before .before .before .args in
-    seek-on (matches (companyAt (a .key)) (a .own) (a .asid) (a .address)) (a .table .now) (c .before .before .before .before .before .loop .i) (c .before .before .before .before .before .loop .k) (c .before .before .before .before .loop-test .taken) (c .before .before .before .before .before .loop .inv) (sym (c .before .is-match .ensures) ∙ c .if1 .left)
+    let a = c .before .before .before .before .before .args in
+    let p = c .before .before .before .before .before .pre in
+    let l = c .before .before .before .loop in
+    let t = a .table .now in
+    let base = getD t (l .i) 0 in
+    let tag = getD t (l .i + 1) 0 in
+    ⊎-elim
+    (λ y. seek-on (matches (companyAt (a .key)) (a .own) (a .asid) (a .address)) t (l .i) (l .k) (c .before .before .loop-test .taken) (l .inv)
+    (sym (match-key (a .key) (a .own) (a .asid) (a .address) base tag 0 (p .1) (p .2) (y .0 .taken)) ∙ sym (y .3 .ensures) ∙ y .4 .left))
+    (λ y. seek-on (matches (companyAt (a .key)) (a .own) (a .asid) (a .address)) t (l .i) (l .k) (c .before .before .loop-test .taken) (l .inv)
+    (match-other (a .key) (a .own) (a .asid) (a .address) base tag 0 (p .1) (p .2) (y .left)))
+    (c .if1 .came)
 
 returns-2 : tie.Need-returns-2 Inv-loop μ-loop
 returns-2 c =
@@ -69,6 +95,9 @@ first-match-spec =
     Inv-loop
     μ-loop
     loop-holds
+    add-if1
+    mul-if1
+    shared-slice-read-if1
     mul-is-match
     shared-slice-read-is-match
     add-is-match

@@ -1,0 +1,73 @@
+-- Slots that lie elsewhere do not translate an address.
+use Prim.Native.Nat.{ℕ, _+_, _*_, _/_, _%_, _^_, _<_, _≤_}
+use mathlib.Core.Bool.{Bool, true, false, _&&_, _||_, not}
+use mathlib.Core.Path.{_≡_, refl, sym, ap, _∙_}
+use native.Mathlib.Nat.{add-mul, one-mul, div-eq-of-lt-le}
+use native.Mathlib.Omega.{arith}
+use lib.Dec.{eqb}
+use borrow.Author.Tests.{eqb-true}
+use Rattle.laws.proofs.Aligned.{whole}
+use Rattle.laws.proofs.Truth.{and-0, and-1, not-so}
+use Rattle.laws.specs.Bits.{bits}
+use Rattle.machine.proofs.Found.{match-empty, match-own}
+use Rattle.machine.proofs.Spans.{in-span}
+use Rattle.machine.proofs.Tags.{entry-low}
+use Rattle.machine.specs.Entry.{hasAsids, spanOf}
+use Rattle.machine.specs.Span.{inSpan}
+use Rattle.machine.specs.Table.{holdsAddress, matches}
+use Rattle.machine.specs.Tag.{layout, companyAt, entryAt, isEntry}
+use Rattle.machine.specs.declared.entry.Entry.{Entry}
+use Rattle.tags.proofs.Parts.{entry-legal, no-span}
+
+-- a slot reads as an entry that holds the address
+abbrev pub holds : ℕ → ℕ → ℕ → ℕ → ℕ → Bool
+holds own asid address base tag = isEntry base tag && holdsAddress own asid address (entryAt base tag)
+
+-- with the key it matches exactly then
+pub match-key : (key own asid address base tag out : ℕ) → key % 2 ^ 4 ≡ layout → key < 2 ^ 26 → tag % 2 ^ 26 ≡ key →
+    holds own asid address base tag ≡ matches (companyAt key) own asid address base tag out
+match-key key own asid address base tag out hk hl e = go (isEntry base tag) refl
+  where
+    go : (b : Bool) → isEntry base tag ≡ b → (b && holdsAddress own asid address (entryAt base tag)) ≡ matches (companyAt key) own asid address base tag out
+    go true h = sym (match-own key own asid address base tag out hk hl e h)
+    go false h = sym (match-empty (companyAt key) own asid address base tag out h)
+
+pub hold-empty : (own asid address base tag : ℕ) → isEntry base tag ≡ false → holds own asid address base tag ≡ false
+hold-empty own asid address base tag h = ap (λ (b : Bool). b && holdsAddress own asid address (entryAt base tag)) h
+
+pub hold-entry : (own asid address base tag : ℕ) → isEntry base tag ≡ true → holds own asid address base tag ≡ holdsAddress own asid address (entryAt base tag)
+hold-entry own asid address base tag h = ap (λ (b : Bool). b && holdsAddress own asid address (entryAt base tag)) h
+
+-- the slot of another processor does not
+pub hold-other : (own asid address base tag : ℕ) → (tag / 2 ^ 51 ≡ own → ⊥) → holds own asid address base tag ≡ false
+unfolding holdsAddress entryAt
+hold-other own asid address base tag d =
+    not-so (holds own asid address base tag)
+    (λ (h : holds own asid address base tag ≡ true).
+    let e = entryAt base tag in
+    let l = e .leaf in
+    let p = eqb (bits 53 51 tag) own in
+    let i = inSpan base (spanOf e) address in
+    let a = eqb (e .asid) asid || e .global || not (hasAsids (e .company)) in
+    let reads = and-0 (isEntry base tag) _ h in
+    let own-is : bits 53 51 tag ≡ own = eqb-true (bits 53 51 tag) own (and-1 l p (and-0 (l && p) i (and-0 (l && p && i) a (and-1 (isEntry base tag) (l && p && i && a) h)))) in
+    d (omega (arith, own-is, entry-low base tag reads)))
+
+-- the slot of another span of its size does not
+pub hold-apart : (own asid address base tag k : ℕ) → k ≡ spanOf (entryAt 0 tag) → (base / 2 ^ k ≡ address / 2 ^ k → ⊥) → holds own asid address base tag ≡ false
+unfolding holdsAddress entryAt
+hold-apart own asid address base tag k s d =
+    not-so (holds own asid address base tag)
+    (λ (h : holds own asid address base tag ≡ true).
+    let e = entryAt base tag in
+    let l = e .leaf in
+    let p = eqb (bits 53 51 tag) own in
+    let i = inSpan base (spanOf e) address in
+    let a = eqb (e .asid) asid || e .global || not (hasAsids (e .company)) in
+    let reads = and-0 (isEntry base tag) _ h in
+    let inside : inSpan base k address ≡ true = ap (λ (j : ℕ). inSpan base j address) s ∙ and-1 (l && p) i (and-0 (l && p && i) a (and-1 (isEntry base tag) (l && p && i && a) h)) in
+    let b : base ≡ base / 2 ^ k * 2 ^ k = whole base k (ap (λ (j : ℕ). base % 2 ^ j) s ∙ entry-legal base tag reads .multiple) in
+    let (from, to) = in-span base k address inside in
+    let low : base / 2 ^ k * 2 ^ k ≤ address = omega (arith, b, from) in
+    let high : address < (base / 2 ^ k + 1) * 2 ^ k = omega (arith, b, to, add-mul (base / 2 ^ k) 1 (2 ^ k), one-mul (2 ^ k)) in
+    d (sym (div-eq-of-lt-le (2 ^ k) low high)))
