@@ -2,7 +2,7 @@
 use Prim.Native.Nat.{ℕ, _+_, _*_, _/_, _^_, _<_, _≤_}
 use mathlib.Core.Bool.{true, false}
 use mathlib.Core.List.{List}
-use mathlib.Core.Path.{_≡_, refl, sym, subst, _∙_}
+use mathlib.Core.Path.{_≡_, refl, sym, ap₂, subst, _∙_}
 use native.Mathlib.Decide.{ℕ-discrete}
 use native.Mathlib.Nat.{div-lt-iff-lt-mul}
 use native.Mathlib.Omega.{arith}
@@ -12,9 +12,12 @@ use borrow.Author.Tests.{eqb-true}
 use Rattle.laws.proofs.Any.{few}
 use Rattle.laws.proofs.Truth.{and-1, not-so, clash}
 use Rattle.machine.proofs.Going.{going}
-use Rattle.machine.specs.Entry.{hasAsids}
+use Rattle.machine.proofs.Spans.{span-most, number-meets}
+use Rattle.machine.proofs.Tags.{legal}
+use Rattle.machine.specs.Entry.{hasAsids, spanOf, isLegal}
 use Rattle.machine.specs.Goes.{goes}
 use Rattle.machine.specs.Judge.{holdsAsid}
+use Rattle.machine.specs.Span.{meetsRange}
 use Rattle.machine.specs.declared.entry.Entry.{Entry}
 use Rattle.machine.specs.declared.judge.Target.{Target}
 use Rattle.machine.specs.declared.work.Work.{Work}
@@ -24,6 +27,18 @@ use Rattle.steps.specs.Steps.{workAt, usedBy}
 -- an entry of another granule stays
 pub other-granule : (w : Work) (e : Entry) → (e .granule ≡ w .granule → ⊥) → goes w e ≡ false
 other-granule w e d = not-so (goes w e) (λ (h : goes w e ≡ true). d (eqb-true (e .granule) (w .granule) (going w e h .granule)))
+
+-- the span of an entry is at most 2^54 bytes
+pub span-low : (e : Entry) (k : ℕ) → isLegal e ≡ true → k ≡ spanOf e → k < 64
+span-low e k h s = omega (arith, s, span-most (e .wide) (e .granule) (e .level) (legal e h .span))
+
+-- an entry whose span lies apart from the range of a work stays: q is the number of the span
+pub span-apart : (w : Work) (e : Entry) (k q : ℕ) → k ≡ spanOf e → e .base ≡ q * 2 ^ k → ((w .first / 2 ^ k ≤ q) × (q ≤ w .last / 2 ^ k) → ⊥) → goes w e ≡ false
+span-apart w e k q s b d =
+    not-so (goes w e)
+    (λ (h : goes w e ≡ true).
+    let m : meetsRange (q * 2 ^ k) k (w .first) (w .last) ≡ true = ap₂ (λ (x j : ℕ). meetsRange x j (w .first) (w .last)) (sym b) s ∙ going w e h .met in
+    d (number-meets k q (w .first) (w .last) m))
 
 -- the ASIDs below a are used
 abbrev pub Used : List Work → ℕ → ℕ → Type 0

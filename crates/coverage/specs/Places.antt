@@ -8,9 +8,7 @@ use Rattle.machine.specs.Span.{exponentOf, hasSpan}
 use Rattle.machine.specs.declared.entry.Entry.{Entry}
 use Rattle.machine.specs.declared.judge.Target.{Target}
 use Rattle.machine.specs.declared.work.Work.{Work}
-use Rattle.steps.specs.Steps.{workAt, takenBy}
-use Rattle.coverage.specs.declared.cover.Cover.{Cover}
-use Rattle.coverage.specs.declared.cover.Cover.the-variants.{To, Open}
+use Rattle.steps.specs.Steps.{workAt}
 use Rattle.machine.specs.Goes.{goes}
 
 -- the kind is asked for, and has a span
@@ -42,7 +40,3 @@ pub record CoversTo (works : List Work) (n : ℕ) (e : Entry) (k q : ℕ) : Type
   pub goes : goes (workAt works place) e ≡ true
   pub end : q ≡ workAt works place .last / 2 ^ k
   pub most : q < 2 ^ 52
-
-abbrev pub Covers : List Work → ℕ → Entry → ℕ → Cover → Type 0
-Covers works n e k (To q) = CoversTo works n e k q
-Covers works n e k Open = takenBy works n e ≡ false

@@ -4,8 +4,7 @@ mod cover;
 mod place;
 
 pub use asids::named_asid;
-pub use cover::Cover;
-pub use cover::cover_of;
+pub use cover::is_taken;
 pub use place::entry_in;
 pub use place::is_asked;
 pub use place::leaf_at;

@@ -30,11 +30,9 @@ use Rattle.judge.proofs.Deciding.{searches, decides, step-works}
 use Rattle.judge.proofs.Targets.{Fits}
 use Rattle.judge.proofs.Walk.{AtProcessor, AtKind, AtBase, start-processors, skip-processor, enter-processor, skip-kind, enter-kind, leave-kind, leave-processor, finish, jump, gap, asked-span}
 use Rattle.coverage.specs.Asids.{Free, Named}
-use Rattle.coverage.specs.Places.{isAsked, exponentIn, Covers}
+use Rattle.coverage.specs.Places.{isAsked, exponentIn, CoversTo}
 use Rattle.judge.specs.Search.{entryIn, Searched, Searches}
-use Rattle.steps.specs.Steps.{workIn, workAt, stepAt, AreSteps, usedBy}
-use Rattle.coverage.specs.declared.cover.Cover.{Cover}
-use Rattle.coverage.specs.declared.cover.Cover.the-variants.{To, Open}
+use Rattle.steps.specs.Steps.{workIn, workAt, stepAt, AreSteps, takenBy, usedBy}
 
 -- the works of the steps
 unfoldable pub worksOf : State → List ℕ → List Work
@@ -72,7 +70,15 @@ freeAsid works n (suc more) a = cond (usedBy works n a) (freeAsid works n more (
 unfoldable pub namedAsid : Target → List Work → ℕ → ℕ
 namedAsid t works n = cond (t .one) (t .asid) (cond (hasAsids (t .company)) (freeAsid works n 17 0) 0)
 
--- a work that drops an entry, and the number of the last span that it meets
+-- a work drops an entry, and this is the number of the last span that it meets; or none does
+pub data Cover : Type 0 where
+  To : ℕ → Cover
+  Open : Cover
+
+abbrev Covers : List Work → ℕ → Entry → ℕ → Cover → Type 0
+Covers works n e k (To q) = CoversTo works n e k q
+Covers works n e k Open = takenBy works n e ≡ false
+
 unfoldable pub coverAt : List Work → ℕ → Entry → ℕ → Cover
 coverAt works zero e k = Open
 coverAt works (suc n) e k = cond (goes (workAt works n) e) (To (workAt works n .last / 2 ^ k)) (coverAt works n e k)

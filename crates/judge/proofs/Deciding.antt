@@ -1,5 +1,5 @@
 -- From the works of the steps to the list, and from the search to the verdict.
-use Prim.Native.Nat.{ℕ, _*_, _/_, _^_, _<_, _≤_}
+use Prim.Native.Nat.{ℕ, _+_, _*_, _/_, _^_, _<_, _≤_}
 use mathlib.Core.Bool.{Bool, true, false, not, _&&_, _||_}
 use mathlib.Core.List.{List}
 use mathlib.Core.Logic.{_⊎_, inl, inr}
@@ -7,10 +7,11 @@ use mathlib.Core.Path.{_≡_, refl, sym, ap, subst, _∙_}
 use native.Mathlib.Nat.{div-lt-iff-lt-mul}
 use native.Mathlib.Omega.{arith}
 use lib.Dec.{eqb, ltb, leb}
+use lib.ListN.{getD}
 use lib.Pow.{pow-pos}
-use borrow.Author.Tests.{eqb-true, leb-true, ltb-true, lt-ltb, le-ltb, eq-eqb, not-false}
+use borrow.Author.Tests.{eqb-true, leb-true, ltb-true, lt-ltb, eq-eqb, ne-eqb, not-false}
 use Rattle.laws.proofs.Any.{any-none, none-any, any-some, some-any, any-slots}
-use Rattle.laws.proofs.Slots.{some-none, first-is}
+use Rattle.laws.proofs.Slots.{some-none, none-some, first-is}
 use Rattle.laws.proofs.Truth.{and-0, and-1, not-so, clash, or-left}
 use Rattle.laws.specs.Slots.{slots, holdsAt, first, some}
 use Rattle.machine.proofs.Going.{going, going-holds}
@@ -18,6 +19,7 @@ use Rattle.machine.proofs.Judging.{isTaken, list-done, alone-table, survive, su
 use Rattle.machine.proofs.Running.{list-shape}
 use Rattle.machine.proofs.Tags.{legal, company-one, company-self}
 use Rattle.machine.proofs.Verdicts.{aiming, kind-there}
+use Rattle.machine.proofs.Works.{fit}
 use Rattle.machine.specs.Answer.{ranNumber}
 use Rattle.machine.specs.Entry.{hasAsids, spanOf}
 use Rattle.machine.specs.Execute.{isWork, refuses, ranOf, onWork}
@@ -37,7 +39,7 @@ use Rattle.judge.proofs.Targets.{Fits, Rules, target-keeps, candidate-a
 use Rattle.coverage.specs.Asids.{Named}
 use Rattle.coverage.specs.Places.{exponentIn}
 use Rattle.judge.specs.Search.{entryIn, Candidate, Earlier, First, Searched, Searches}
-use Rattle.steps.specs.Steps.{workIn, workAt, stepAt, AreSteps, FirstOther, takenBy, usedBy}
+use Rattle.steps.specs.Steps.{workIn, workAt, stepAt, AreSteps, FirstNone, FirstOther, takenBy, usedBy}
 
 -- where no step is refused, the works are those of the steps
 module _ (st : State) (steps : List ℕ) (works : List Work) (are : AreSteps st steps works) (done : some (refuses st) steps ≡ false) where
@@ -270,11 +272,34 @@ module _
   decides (Gap e) h = (sound, done, inside, survives e h)
 
 -- the answers before the search
-pub refused-verdict : (st : State) (t : Target) (steps : List ℕ) (k : ℕ) → Sound st t steps → k ≡ first (refuses st) steps → k < slots steps → Verdict st t steps (Refused k)
-refused-verdict st t steps k s e l = (s, lt-ltb (first (refuses st) steps) (slots steps) (omega (arith, e)), e)
+-- a step that has no work is refused
+refused-steps : (st : State) (steps : List ℕ) (works : List Work) → AreSteps st steps works → (i : ℕ) → i < slots steps →
+    holdsAt (refuses st) steps i ≡ eqb (workAt works i .granule) 0
+refused-steps st steps works are i l = go (stepAt st steps i) refl ∙ ap (λ (w : Work). eqb (w .granule) 0) (sym (are .each i l))
+  where
+    go : (r : Resolved) → stepAt st steps i ≡ r → not (isWork r) ≡ eqb (workIn r .granule) 0
+    go (resolved.Works w) e =
+        let some = fit st (getD steps (3 * i) 0) (getD steps (3 * i + 1) 0) (getD steps (3 * i + 2) 0) w e .granule-some in
+        sym (ne-eqb (w .granule) 0 (λ z. omega (arith, some)))
+    go resolved.Unknown e = refl
+    go resolved.Undefined e = refl
+    go (resolved.Trapped v) e = refl
+    go resolved.NoEffect e = refl
+    go resolved.NoGranule e = refl
+    go resolved.Unpredictable e = refl
 
-pub refused-none : (st : State) (steps : List ℕ) (k : ℕ) → k ≡ first (refuses st) steps → slots steps ≤ k → some (refuses st) steps ≡ false
-refused-none st steps k e l = le-ltb (first (refuses st) steps) (slots steps) (omega (arith, e))
+pub refused-verdict : (st : State) (t : Target) (steps : List ℕ) (works : List Work) (k : ℕ) → Sound st t steps → AreSteps st steps works →
+    FirstNone works (slots steps) k → k < slots steps → Verdict st t steps (Refused k)
+refused-verdict st t steps works k s are f l =
+    let at : first (refuses st) steps ≡ k =
+    first-is (refuses st) steps k l (λ (i : ℕ) (m : i < k). refused-steps st steps works are i (omega arith) ∙ ne-eqb _ _ (f .lower i m))
+    (refused-steps st steps works are k l ∙ eq-eqb _ _ (f .here l)) in
+    (s, lt-ltb (first (refuses st) steps) (slots steps) (omega (arith, at)), sym at)
+
+pub refused-none : (st : State) (steps : List ℕ) (works : List Work) (k : ℕ) → AreSteps st steps works → FirstNone works (slots steps) k → slots steps ≤ k →
+    some (refuses st) steps ≡ false
+refused-none st steps works k are f l =
+    none-some (refuses st) steps (λ (i : ℕ) (m : i < slots steps). refused-steps st steps works are i m ∙ ne-eqb _ _ (f .lower i (omega arith)))
 
 pub outside-verdict : (st : State) (t : Target) (steps : List ℕ) (works : List Work) (k : ℕ) → Sound st t steps → AreSteps st steps works → some (refuses st) steps ≡ false →
     FirstOther (t .company) works (slots steps) k → k < slots steps → Verdict st t steps (Outside k)

@@ -13,12 +13,12 @@ use lib.Pow.{pow-pos}
 use mir.Syntax.{w8}
 use mir.Val.{toZ, ofZ}
 use borrow.Author.Tests.{ltb-true, ltb-false, leb-true}
-use Rattle.laws.proofs.Any.{some-any}
+use Rattle.laws.proofs.Any.{any-start, any-more, some-any}
 use Rattle.laws.proofs.Truth.{and-0, and-1, clash}
 use Rattle.laws.specs.Mask.{bitOf}
 use Rattle.machine.proofs.Going.{going, going-holds}
 use Rattle.machine.proofs.Spans.{by-level, span-most, span-granule, span-tg, meets-number, number-meets}
-use Rattle.machine.specs.Entry.{isLegal}
+use Rattle.machine.specs.Entry.{spanOf, isLegal}
 use Rattle.machine.specs.Goes.{goes, isMet, isOwned}
 use Rattle.machine.specs.Judge.{leafAt, levelAt}
 use Rattle.machine.specs.Span.{isLevel, hasSpan}
@@ -26,11 +26,10 @@ use Rattle.machine.specs.declared.entry.Entry.{Entry}
 use Rattle.machine.specs.declared.judge.Judged.the-variants.{Accepted, Gap}
 use Rattle.machine.specs.declared.judge.Target.{Target}
 use Rattle.machine.specs.declared.work.Work.{Work}
-use Rattle.coverage.specs.Places.{isAsked, exponentIn, placed, CoversTo, Covers}
+use Rattle.coverage.proofs.Covering.{number-most}
+use Rattle.coverage.specs.Places.{isAsked, exponentIn, placed, CoversTo}
 use Rattle.judge.specs.Search.{entryIn, Candidate, Earlier, Searched, Searches}
-use Rattle.steps.specs.Steps.{workAt, takenBy, AreOwned}
-use Rattle.coverage.specs.declared.cover.Cover.{Cover}
-use Rattle.coverage.specs.declared.cover.Cover.the-variants.{To, Open}
+use Rattle.steps.specs.Steps.{workAt, takenBy}
 
 -- a work that drops an entry of the target drops the one of the same kind at another base, if it meets that too
 goes-base : (w : Work) (t : Target) (asid p : ℕ) (leaf : Bool) (l : ℤ) (a b : ℕ) → goes w (placed t asid p leaf l a) ≡ true →
@@ -95,6 +94,14 @@ module _ (t : Target) (works : List Work) (n asid : ℕ) where
     pub last : end ≡ t .last / 2 ^ k
     pub low : t .first / 2 ^ k ≤ q
     pub passed : (y : ℕ) → y < q → Candidate t p j y → Gone p j y
+
+  -- and that over steps to i, none of which before drops the entry of the span of number q
+  pub record AtStep (p j : ℕ) (leaf : Bool) (level : ℤ) (k end q i : ℕ) (e : Entry) : Type 0 where
+    pub outer : AtBase p j leaf level k end q
+    pub within : q ≤ end
+    pub entry : e ≡ entryIn t asid p j q
+    pub steps : i ≤ n
+    pub stays : takenBy works i e ≡ false
 
   pub start-processors : AtProcessor 0
   start-processors = record { passed = λ (x i y : ℕ) (l : x < 0) (c : Candidate t x i y). absurd (let z : ⊥ = omega arith in z) }
@@ -198,17 +205,37 @@ module _ (t : Target) (works : List Work) (n asid : ℕ) where
   pub base-most : (p j : ℕ) (leaf : Bool) (level : ℤ) (k end q : ℕ) → AtBase p j leaf level k end q → k < 64
   base-most p j leaf level k end q h = asked-most t (leafAt j) (levelAt j) k (h .asked) (h .exponent)
 
-  pub legal-here : (p j : ℕ) (leaf : Bool) (level : ℤ) (k end q : ℕ) → AtBase p j leaf level k end q → Searches t works n asid → q ≤ end → (e : Entry) →
-      e ≡ placed t asid p leaf level (q * 2 ^ k % 2 ^ 64) → (isLegal e ≡ true) × AreOwned works n e × (12 ≤ k) × (k < 64)
-  legal-here p j leaf level k end q h s m e i =
-      let here = here p j leaf level k end q h m in
-      let same : entryIn t asid p j q ≡ e = sym (i ∙ entry-here p j leaf level k end q h (s .last) m) in
-      let (least, most) = asked-span t (leafAt j) (levelAt j) (h .asked) in (
-        ap isLegal (sym same) ∙ s .legal p j q here,
-        λ (x : ℕ) (l : x < n). ap (λ (d : Entry). isOwned (workAt works x) d) i ∙ s .owned x l,
-        omega (arith, h .exponent, least),
-        omega (arith, h .exponent, most),
+  pub start-steps : (p j : ℕ) (leaf : Bool) (level : ℤ) (k end q : ℕ) (e : Entry) → AtBase p j leaf level k end q → Searches t works n asid → q ≤ end →
+      e ≡ placed t asid p leaf level (q * 2 ^ k % 2 ^ 64) → AtStep p j leaf level k end q 0 e
+  start-steps p j leaf level k end q e h s m i = record {
+    outer = h;
+    within = m;
+    entry = i ∙ entry-here p j leaf level k end q h (s .last) m;
+    steps = omega arith;
+    stays = any-start (λ (x : ℕ). goes (workAt works x) e);
+  }
+
+  -- what the test of a step asks for
+  pub tries : (p j : ℕ) (leaf : Bool) (level : ℤ) (k end q i : ℕ) (e : Entry) → AtStep p j leaf level k end q i e → Searches t works n asid → i < n →
+      (isLegal e ≡ true) × (isOwned (workAt works i) e ≡ true) × (k ≡ spanOf e) × (e .base ≡ q * 2 ^ k)
+  unfolding entryIn
+  tries p j leaf level k end q i e h s l =
+      let exponent = h .outer .exponent in (
+        ap isLegal (h .entry) ∙ s .legal p j q (here p j leaf level k end q (h .outer) (h .within)),
+        ap (isOwned (workAt works i)) (h .entry) ∙ s .owned i l,
+        exponent ∙ ap spanOf (sym (h .entry)),
+        ap (λ (d : Entry). d .base) (h .entry) ∙ ap (λ (m : ℕ). q * 2 ^ m) (sym exponent),
       )
+
+  pub next-step : (p j : ℕ) (leaf : Bool) (level : ℤ) (k end q i : ℕ) (e : Entry) → AtStep p j leaf level k end q i e → i < n → goes (workAt works i) e ≡ false →
+      AtStep p j leaf level k end q (i + 1) e
+  next-step p j leaf level k end q i e h l none = record {
+    outer = h .outer;
+    within = h .within;
+    entry = h .entry;
+    steps = omega arith;
+    stays = any-more (λ (x : ℕ). goes (workAt works x) e) i none (h .stays);
+  }
 
   -- the work that drops the entry meets the spans up to x, and the entry's own is among them
   record Met (j : ℕ) (e : Entry) (k q x : ℕ) (r : CoversTo works n e k x) : Type 0 where
@@ -265,6 +292,17 @@ module _ (t : Target) (works : List Work) (n asid : ℕ) where
       go y u c true f = h .passed y (ltb-true y q f) c
       go y u c false f = also y (ltb-false y q f) u
 
+  -- from a step that drops the entry
+  pub past-step : (p j : ℕ) (leaf : Bool) (level : ℤ) (k end q i : ℕ) (e : Entry) → AtStep p j leaf level k end q i e → i < n → goes (workAt works i) e ≡ true →
+      workAt works i .last < 2 ^ 64 →
+      (q ≤ workAt works i .last / 2 ^ k) × (workAt works i .last / 2 ^ k < 2 ^ 52) × AtBase p j leaf level k end (workAt works i .last / 2 ^ k + 1)
+  past-step p j leaf level k end q i e h l g low =
+      let x = workAt works i .last / 2 ^ k in
+      let least = asked-span t (leafAt j) (levelAt j) (h .outer .asked) .0 in
+      let most : x < 2 ^ 52 = number-most (workAt works i .last) k low (omega (arith, h .outer .exponent, least)) in
+      let it = jump p j leaf level k end q x (h .outer) e (h .entry) (record { place = i; within = l; goes = g; end = refl; most = most }) in
+      (it .0, most, it .1)
+
   -- and where no work drops the entry, it is the first that survives
   pub gap : (p j : ℕ) (leaf : Bool) (level : ℤ) (k end q : ℕ) → AtBase p j leaf level k end q → q ≤ end → (e : Entry) → e ≡ entryIn t asid p j q →
       takenBy works n e ≡ false → Searched t works n asid (Gap e)
@@ -287,9 +325,7 @@ module _ (t : Target) (works : List Work) (n asid : ℕ) where
           (subst (λ (z : ℕ). Gone p z y) (sym kind)
           (h .passed y less (subst (λ (z : ℕ). Candidate t p z y) kind (subst (λ (z : ℕ). Candidate t z i y) same c))))
 
--- what the answer of the cover says
-pub covers-to : (works : List Work) (n : ℕ) (e : Entry) (k x : ℕ) (c : Cover) → c ≡ To x → Covers works n e k c → CoversTo works n e k x
-covers-to works n e k x c i h = subst (Covers works n e k) i h
-
-pub covers-open : (works : List Work) (n : ℕ) (e : Entry) (k : ℕ) (c : Cover) → c ≡ Open → Covers works n e k c → takenBy works n e ≡ false
-covers-open works n e k c i h = subst (Covers works n e k) i h
+  pub gap-after : (p j : ℕ) (leaf : Bool) (level : ℤ) (k end q i : ℕ) (e : Entry) → AtStep p j leaf level k end q i e → n ≤ i → Searched t works n asid (Gap e)
+  gap-after p j leaf level k end q i e h l =
+      let all : i ≡ n = omega (arith, h .steps, l) in
+      gap p j leaf level k end q (h .outer) (h .within) e (h .entry) (ap (λ (m : ℕ). takenBy works m e) (sym all) ∙ h .stays)

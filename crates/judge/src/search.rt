@@ -1,9 +1,8 @@
 // The search for an entry of the target that survives every step.
 ghost use Rattle.judge.specs.Search.{Searched, Searches};
-use coverage::Cover;
-use coverage::cover_of;
 use coverage::entry_in;
 use coverage::is_asked;
+use coverage::is_taken;
 use coverage::leaf_at;
 use coverage::level_at;
 use machine::Judged;
@@ -34,14 +33,14 @@ pub fn search(works: [Work; 16], n: usize, target: Target, asid: u16) -> Judged
                 let mut q = target.first >> k;
                 'bases: while q <= end {
                     let entry = entry_in(target, asid, p, leaf, level, q << k);
-                    match cover_of(works, n, entry, k) {
-                        Cover::To(e) => {
-                            q = e + 1;
-                        }
-                        Cover::Open => {
-                            break 'search Judged::Gap(entry);
+                    'steps: for i in 0..n {
+                        let work = works[i];
+                        if is_taken(work, entry, q, k) {
+                            q = (work.last >> k) + 1;
+                            continue 'bases;
                         }
                     }
+                    break 'search Judged::Gap(entry);
                 }
             }
         }

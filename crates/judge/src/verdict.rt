@@ -7,8 +7,8 @@ use machine::Judged;
 use machine::State;
 use machine::Target;
 use processor::is_bad;
-use running::first_refused;
 use steps::first_other;
+use steps::first_refused;
 use steps::works_of;
 use tables::is_list;
 use targets::is_target;
@@ -35,11 +35,11 @@ fn by_steps(state: State, target: Target, list: &[u64]) -> Judged
     ensures { λ r. ⌜ Verdict state target (now (list .entry)) r ⌝ }
 {
     let n = list.len() / 3;
-    let refused = first_refused(list, state);
+    let works = works_of(list, state);
+    let refused = first_refused(works, n);
     if refused < n {
         return Judged::Refused(refused);
     }
-    let works = works_of(list, state);
     let company = target.company;
     let outside = first_other(works, n, company);
     if outside < n {

@@ -2,7 +2,7 @@
 use Prim.Native.Nat.{ℕ, _+_, _<_, _≤_}
 use mathlib.Core.Bool.{true, false}
 use mathlib.Core.List.{List}
-use mathlib.Core.Path.{_≡_, sym, subst, _∙_}
+use mathlib.Core.Path.{_≡_, sym, ap, subst, _∙_}
 use native.Mathlib.Decide.{ℕ-discrete}
 use native.Mathlib.Omega.{arith}
 use lib.ListN.{length, set}
@@ -12,7 +12,32 @@ use Rattle.machine.specs.Table.{sameCompany}
 use Rattle.machine.specs.declared.entry.Company.{Company}
 use Rattle.machine.specs.declared.processor.State.{State}
 use Rattle.machine.specs.declared.work.Work.{Work}
-use Rattle.steps.specs.Steps.{noWork, workIn, workAt, stepAt, AreSteps, FirstOther}
+use Rattle.steps.specs.Steps.{noWork, workIn, workAt, stepAt, AreSteps, FirstNone, FirstOther}
+
+-- the works below i are works
+abbrev pub Some : List Work → ℕ → Type 0
+Some works i = (x : ℕ) → x < i → workAt works x .granule ≡ 0 → ⊥
+
+pub some-start : (works : List Work) → Some works 0
+some-start works x l e = omega arith
+
+pub some-more : (works : List Work) (i : ℕ) → Some works i → (workAt works i .granule ≡ 0 → ⊥) → Some works (i + 1)
+some-more works i h n x l = go (ℕ-discrete x i)
+  where
+    go : Dec (x ≡ i) → workAt works x .granule ≡ 0 → ⊥
+    go (yes p) e = n (ap (λ (y : ℕ). workAt works y .granule) (sym p) ∙ e)
+    go (no d) e = h x (omega arith) e
+
+-- and the next is none, or there is none
+pub some-here : (works : List Work) (n i : ℕ) → i < n → Some works i → workAt works i .granule ≡ 0 → FirstNone works n i
+some-here works n i l h e = record { most = omega arith; lower = h; here = λ (m : i < n). e }
+
+pub some-end : (works : List Work) (n i : ℕ) → i ≤ n → n ≤ i → Some works i → FirstNone works n n
+some-end works n i l m h = record {
+  most = omega arith;
+  lower = λ (x : ℕ) (k : x < n). h x (omega arith);
+  here = λ (k : n < n). absurd (let z : ⊥ = omega arith in z);
+}
 
 -- the works below i are of one company
 abbrev pub Same : Company → List Work → ℕ → Type 0

@@ -57,6 +57,12 @@ stepAt st steps i = resolvedOf st (getD steps (3 * i) 0) (getD steps (3 * i + 1)
 pub record AreSteps (st : State) (steps : List ℕ) (works : List Work) : Type 0 where
   pub each : (i : ℕ) → i < slots steps → workAt works i ≡ workIn (stepAt st steps i)
 
+-- the first of n works that is none, or n
+pub record FirstNone (works : List Work) (n r : ℕ) : Type 0 where
+  pub most : r ≤ n
+  pub lower : (i : ℕ) → i < r → workAt works i .granule ≡ 0 → ⊥
+  pub here : r < n → workAt works r .granule ≡ 0
+
 -- the first of n works that is of another company, or n
 pub record FirstOther (c : Company) (works : List Work) (n r : ℕ) : Type 0 where
   pub most : r ≤ n

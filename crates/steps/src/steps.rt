@@ -1,9 +1,9 @@
-// The works of a list's steps, once for the whole judgement, and the first that is of another company.
+// The works of a list's steps, once for the whole judgement, the first step that has none, and the first that is of another company.
 ghost use Prim.Native.Nat.{_≤_};
 ghost use mathlib.Core.Bool.{true};
 ghost use mathlib.Core.Path.{_≡_};
 ghost use Rattle.machine.specs.Execute.{isList};
-ghost use Rattle.steps.specs.Steps.{noWork, workIn, AreSteps, FirstOther};
+ghost use Rattle.steps.specs.Steps.{noWork, workIn, AreSteps, FirstNone, FirstOther};
 use machine::Company;
 use machine::Regime;
 use machine::Resolved;
@@ -65,6 +65,20 @@ pub fn works_of(list: &[u64], state: State) -> [Work; 16]
         works[i] = work_in(resolved);
     }
     works
+}
+
+// The first step that is refused, or the number of steps: every work has a granule, and what stands for none has not.
+pub fn first_refused(works: [Work; 16], n: usize) -> usize
+    requires { ⌜ n ≤ 16 ⌝ }
+    ensures { λ r. ⌜ FirstNone works n r ⌝ }
+{
+    for i in 0..n {
+        let work = works[i];
+        if work.granule == 0 {
+            return i;
+        }
+    }
+    n
 }
 
 // The first step of another company, or the number of steps.

@@ -1,43 +1,51 @@
 -- `judge::search::search` meets its contract.
 use Prim.Native.Nat.{_+_, _-_, _/_, _^_}
-use mathlib.Core.Path.{sym, ap, _∙_}
+use mathlib.Core.Path.{_≡_, refl, sym, ap, _∙_}
 use native.Mathlib.Omega.{arith}
 use mir.Syntax.{w8}
 use mir.Val.{toZ, ofZ}
 use borrow.Author.Needs.{needs}
 use borrow.Author.Tests.{not-true, not-false}
 use Rattle.machine.specs.Span.{isLevel}
-use Rattle.judge.proofs.Walk.{AtProcessor, AtKind, AtBase, start-processors, skip-processor, enter-processor, skip-kind, enter-kind, leave-kind, leave-processor, finish, legal-here, jump, gap, covers-to, covers-open, round, asked-at, asked-most, base-most, entry-here}
+use Rattle.judge.proofs.Walk.{AtProcessor, AtKind, AtBase, AtStep, start-processors, skip-processor, enter-processor, skip-kind, enter-kind, leave-kind, leave-processor, finish, start-steps, tries, next-step, past-step, gap-after, round, asked-at, asked-most, base-most}
 use Rattle.judge.proofs.search.search.Statement.{statement}
 use Rattle.judge.specs.Search.{Searches}
 use Rattle.judge.proofs.search.search.Tie as tie
 
+abbrev Inv-steps : tie.InvT-steps
+Inv-steps n target asid works p j leaf level k end q₀ entry i₀ q i = (q ≡ q₀) × AtStep target works n asid p j leaf (toZ w8 level) k end q i entry
+
+abbrev μ-steps : tie.MeasureT-steps
+μ-steps n target asid works p j leaf level k end q₀ entry i₀ q i = n - i
+
 abbrev Inv-bases : tie.InvT-bases
-Inv-bases works n target asid p j leaf level k end q₀ q = AtBase target works n asid p j leaf (toZ w8 level) k end q
+Inv-bases n target asid works p j leaf level k end q₀ q = AtBase target works n asid p j leaf (toZ w8 level) k end q
 
 abbrev μ-bases : tie.MeasureT-bases
-μ-bases works n target asid p j leaf level k end q₀ q = (end + 1) - q
+μ-bases n target asid works p j leaf level k end q₀ q = (end + 1) - q
 
 abbrev Inv-kinds : tie.InvT-kinds
-Inv-kinds works n target asid p j₀ j = AtKind target works n asid p j
+Inv-kinds n target asid works p j₀ j = AtKind target works n asid p j
 
 abbrev μ-kinds : tie.MeasureT-kinds
-μ-kinds works n target asid p j₀ j = 7 - j
+μ-kinds n target asid works p j₀ j = 7 - j
 
 abbrev Inv-processors : tie.InvT-processors
-Inv-processors works n target asid p₀ p = AtProcessor target works n asid p
+Inv-processors n target asid works p₀ p = AtProcessor target works n asid p
 
 abbrev μ-processors : tie.MeasureT-processors
-μ-processors works n target asid p₀ p = 8 - p
+μ-processors n target asid works p₀ p = 8 - p
 
 abbrev Inv-search : tie.InvT-search
-Inv-search works n target asid = Searches target works n asid
+Inv-search n target asid works = Searches target works n asid
 
 abbrev μ-search : tie.MeasureT-search
-μ-search works n target asid = 0
+μ-search n target asid works = 0
 
 search-holds :
     tie.Need-search-holds
+    Inv-steps
+    μ-steps
     Inv-bases
     μ-bases
     Inv-kinds
@@ -50,6 +58,8 @@ search-holds c = c .pre
 
 processors-holds :
     tie.Need-processors-holds
+    Inv-steps
+    μ-steps
     Inv-bases
     μ-bases
     Inv-kinds
@@ -58,10 +68,15 @@ processors-holds :
     μ-processors
     Inv-search
     μ-search
-processors-holds c = start-processors (c .before .args .target) (c .before .args .works) (c .before .args .n) (c .before .args .asid)
+processors-holds c =
+    let a = c .before .args in
+    let t = a .target in
+    start-processors t (a .t1) (a .n) (a .asid)
 
 cast-bit-of :
     tie.Need-cast-bit-of
+    Inv-steps
+    μ-steps
     Inv-bases
     μ-bases
     Inv-kinds
@@ -74,6 +89,8 @@ cast-bit-of c = search needs
 
 bit-of-requires :
     tie.Need-bit-of-requires
+    Inv-steps
+    μ-steps
     Inv-bases
     μ-bases
     Inv-kinds
@@ -86,6 +103,8 @@ bit-of-requires c κs = search needs
 
 add-p :
     tie.Need-add-p
+    Inv-steps
+    μ-steps
     Inv-bases
     μ-bases
     Inv-kinds
@@ -98,6 +117,8 @@ add-p c = search needs
 
 processors-less :
     tie.Need-processors-less
+    Inv-steps
+    μ-steps
     Inv-bases
     μ-bases
     Inv-kinds
@@ -110,6 +131,8 @@ processors-less c = search needs
 
 processors-again :
     tie.Need-processors-again
+    Inv-steps
+    μ-steps
     Inv-bases
     μ-bases
     Inv-kinds
@@ -118,10 +141,16 @@ processors-again :
     μ-processors
     Inv-search
     μ-search
-processors-again c = skip-processor (c .before .before .before .before .before .args .target) (c .before .before .before .before .before .args .works) (c .before .before .before .before .before .args .n) (c .before .before .before .before .before .args .asid) (c .before .before .before .processors .p) (c .before .before .before .processors .inv) (sym (c .before .bit-of .ensures) ∙ not-true _ (c .if1 .taken))
+processors-again c =
+    let a = c .before .before .before .before .before .args in
+    let t = a .target in
+    let p = c .before .before .before .processors .p in
+    skip-processor t (a .t1) (a .n) (a .asid) p (c .before .before .before .processors .inv) (sym (c .before .bit-of .ensures) ∙ not-true _ (c .if1 .taken))
 
 kinds-holds :
     tie.Need-kinds-holds
+    Inv-steps
+    μ-steps
     Inv-bases
     μ-bases
     Inv-kinds
@@ -130,10 +159,16 @@ kinds-holds :
     μ-processors
     Inv-search
     μ-search
-kinds-holds c = enter-processor (c .before .before .before .before .before .args .target) (c .before .before .before .before .before .args .works) (c .before .before .before .before .before .args .n) (c .before .before .before .before .before .args .asid) (c .before .before .before .processors .p) (c .before .before .before .processors .inv) (c .before .before .processors-test .taken) (sym (c .before .bit-of .ensures) ∙ not-false _ (c .if1 .left))
+kinds-holds c =
+    let a = c .before .before .before .before .before .args in
+    let t = a .target in
+    let p = c .before .before .before .processors .p in
+    enter-processor t (a .t1) (a .n) (a .asid) p (c .before .before .before .processors .inv) (c .before .before .processors-test .taken) (sym (c .before .bit-of .ensures) ∙ not-false _ (c .if1 .left))
 
 leaf-at-requires :
     tie.Need-leaf-at-requires
+    Inv-steps
+    μ-steps
     Inv-bases
     μ-bases
     Inv-kinds
@@ -146,6 +181,8 @@ leaf-at-requires c κs = search needs
 
 level-at-requires :
     tie.Need-level-at-requires
+    Inv-steps
+    μ-steps
     Inv-bases
     μ-bases
     Inv-kinds
@@ -158,6 +195,8 @@ level-at-requires c κs = search needs
 
 is-asked-requires :
     tie.Need-is-asked-requires
+    Inv-steps
+    μ-steps
     Inv-bases
     μ-bases
     Inv-kinds
@@ -170,6 +209,8 @@ is-asked-requires c κs = search needs
 
 add-j :
     tie.Need-add-j
+    Inv-steps
+    μ-steps
     Inv-bases
     μ-bases
     Inv-kinds
@@ -182,6 +223,8 @@ add-j c = search needs
 
 kinds-less :
     tie.Need-kinds-less
+    Inv-steps
+    μ-steps
     Inv-bases
     μ-bases
     Inv-kinds
@@ -194,6 +237,8 @@ kinds-less c = search needs
 
 kinds-again :
     tie.Need-kinds-again
+    Inv-steps
+    μ-steps
     Inv-bases
     μ-bases
     Inv-kinds
@@ -202,10 +247,19 @@ kinds-again :
     μ-processors
     Inv-search
     μ-search
-kinds-again c = skip-kind (c .before .before .before .before .before .before .before .before .before .before .before .args .target) (c .before .before .before .before .before .before .before .before .before .before .before .args .works) (c .before .before .before .before .before .before .before .before .before .before .before .args .n) (c .before .before .before .before .before .before .before .before .before .before .before .args .asid) (c .before .before .before .before .before .before .before .before .before .processors .p) (c .before .before .before .before .before .kinds .j) (c .before .before .before .before .before .kinds .inv) (sym (asked-at (c .before .before .before .before .before .before .before .before .before .before .before .args .target) (c .before .before .before .leaf-at .result) (toZ w8 (ofZ w8 (c .before .before .level-at .result))) (c .before .before .before .before .before .kinds .j) (c .before .before .before .leaf-at .ensures) (round (c .before .before .level-at .result) (c .before .before .level-at .ensures .1) ∙ c .before .before .level-at .ensures .0)) ∙ sym (c .before .is-asked .ensures) ∙ not-true _ (c .if2 .taken))
+kinds-again c =
+    let a = c .before .before .before .before .before .before .before .before .before .before .before .args in
+    let t = a .target in
+    let p = c .before .before .before .before .before .before .before .before .before .processors .p in
+    let j = c .before .before .before .before .before .kinds .j in
+    let leaf = c .before .before .before .leaf-at .result in
+    let level = toZ w8 (ofZ w8 (c .before .before .level-at .result)) in
+    skip-kind t (a .t1) (a .n) (a .asid) p j (c .before .before .before .before .before .kinds .inv) (sym (asked-at t leaf level j (c .before .before .before .leaf-at .ensures) (round (c .before .before .level-at .result) (c .before .before .level-at .ensures .1) ∙ c .before .before .level-at .ensures .0)) ∙ sym (c .before .is-asked .ensures) ∙ not-true _ (c .if2 .taken))
 
 cast-exponent-of :
     tie.Need-cast-exponent-of
+    Inv-steps
+    μ-steps
     Inv-bases
     μ-bases
     Inv-kinds
@@ -218,6 +272,8 @@ cast-exponent-of c = search needs
 
 exponent-of-requires :
     tie.Need-exponent-of-requires
+    Inv-steps
+    μ-steps
     Inv-bases
     μ-bases
     Inv-kinds
@@ -226,10 +282,13 @@ exponent-of-requires :
     μ-processors
     Inv-search
     μ-search
-exponent-of-requires c κs = (c .before .before .before .before .before .before .before .before .before .before .before .before .pre .granule, ap isLevel (round (c .before .before .before .level-at .result) (c .before .before .before .level-at .ensures .1)) ∙ c .before .before .before .level-at .ensures .1)
+exponent-of-requires c κs =
+    (c .before .before .before .before .before .before .before .before .before .before .before .before .pre .granule, ap isLevel (round (c .before .before .before .level-at .result) (c .before .before .before .level-at .ensures .1)) ∙ c .before .before .before .level-at .ensures .1)
 
 shr-end :
     tie.Need-shr-end
+    Inv-steps
+    μ-steps
     Inv-bases
     μ-bases
     Inv-kinds
@@ -238,10 +297,20 @@ shr-end :
     μ-processors
     Inv-search
     μ-search
-shr-end c = asked-most (c .before .before .before .before .before .before .before .before .before .before .before .before .before .before .args .target) (c .before .before .before .before .before .before .leaf-at .result) (toZ w8 (ofZ w8 (c .before .before .before .before .before .level-at .result))) (c .before .exponent-of .result) (sym (c .before .before .before .before .is-asked .ensures) ∙ not-false _ (c .before .before .before .if2 .left)) (c .before .exponent-of .ensures .0)
+shr-end c =
+    let a = c .before .before .before .before .before .before .before .before .before .before .before .before .before .before .args in
+    let t = a .target in
+    let p = c .before .before .before .before .before .before .before .before .before .before .before .before .processors .p in
+    let j = c .before .before .before .before .before .before .before .before .kinds .j in
+    let leaf = c .before .before .before .before .before .before .leaf-at .result in
+    let level = toZ w8 (ofZ w8 (c .before .before .before .before .before .level-at .result)) in
+    let k = c .before .exponent-of .result in
+    asked-most t leaf level k (sym (c .before .before .before .before .is-asked .ensures) ∙ not-false _ (c .before .before .before .if2 .left)) (c .before .exponent-of .ensures .0)
 
 shr-q :
     tie.Need-shr-q
+    Inv-steps
+    μ-steps
     Inv-bases
     μ-bases
     Inv-kinds
@@ -250,10 +319,20 @@ shr-q :
     μ-processors
     Inv-search
     μ-search
-shr-q c = asked-most (c .before .before .before .before .before .before .before .before .before .before .before .before .before .before .before .args .target) (c .before .before .before .before .before .before .before .leaf-at .result) (toZ w8 (ofZ w8 (c .before .before .before .before .before .before .level-at .result))) (c .before .before .exponent-of .result) (sym (c .before .before .before .before .before .is-asked .ensures) ∙ not-false _ (c .before .before .before .before .if2 .left)) (c .before .before .exponent-of .ensures .0)
+shr-q c =
+    let a = c .before .before .before .before .before .before .before .before .before .before .before .before .before .before .before .args in
+    let t = a .target in
+    let p = c .before .before .before .before .before .before .before .before .before .before .before .before .before .processors .p in
+    let j = c .before .before .before .before .before .before .before .before .before .kinds .j in
+    let leaf = c .before .before .before .before .before .before .before .leaf-at .result in
+    let level = toZ w8 (ofZ w8 (c .before .before .before .before .before .before .level-at .result)) in
+    let k = c .before .before .exponent-of .result in
+    asked-most t leaf level k (sym (c .before .before .before .before .before .is-asked .ensures) ∙ not-false _ (c .before .before .before .before .if2 .left)) (c .before .before .exponent-of .ensures .0)
 
 bases-holds :
     tie.Need-bases-holds
+    Inv-steps
+    μ-steps
     Inv-bases
     μ-bases
     Inv-kinds
@@ -262,10 +341,20 @@ bases-holds :
     μ-processors
     Inv-search
     μ-search
-bases-holds c = enter-kind (c .before .before .before .before .before .before .before .before .before .before .before .before .before .before .before .args .target) (c .before .before .before .before .before .before .before .before .before .before .before .before .before .before .before .args .works) (c .before .before .before .before .before .before .before .before .before .before .before .before .before .before .before .args .n) (c .before .before .before .before .before .before .before .before .before .before .before .before .before .before .before .args .asid) (c .before .before .before .before .before .before .before .before .before .before .before .before .before .processors .p) (c .before .before .before .before .before .before .before .before .before .kinds .j) (c .before .before .before .before .before .before .before .leaf-at .result) (toZ w8 (ofZ w8 (c .before .before .before .before .before .before .level-at .result))) (c .before .before .exponent-of .result) (c .before .before .before .before .before .before .before .before .before .kinds .inv) (c .before .before .before .before .before .before .before .before .kinds-test .taken) (c .before .before .before .before .before .before .before .leaf-at .ensures) (round (c .before .before .before .before .before .before .level-at .result) (c .before .before .before .before .before .before .level-at .ensures .1) ∙ c .before .before .before .before .before .before .level-at .ensures .0) (sym (c .before .before .before .before .before .is-asked .ensures) ∙ not-false _ (c .before .before .before .before .if2 .left)) (c .before .before .exponent-of .ensures .0)
+bases-holds c =
+    let a = c .before .before .before .before .before .before .before .before .before .before .before .before .before .before .before .args in
+    let t = a .target in
+    let p = c .before .before .before .before .before .before .before .before .before .before .before .before .before .processors .p in
+    let j = c .before .before .before .before .before .before .before .before .before .kinds .j in
+    let leaf = c .before .before .before .before .before .before .before .leaf-at .result in
+    let level = toZ w8 (ofZ w8 (c .before .before .before .before .before .before .level-at .result)) in
+    let k = c .before .before .exponent-of .result in
+    enter-kind t (a .t1) (a .n) (a .asid) p j leaf level k (c .before .before .before .before .before .before .before .before .before .kinds .inv) (c .before .before .before .before .before .before .before .before .kinds-test .taken) (c .before .before .before .before .before .before .before .leaf-at .ensures) (round (c .before .before .before .before .before .before .level-at .result) (c .before .before .before .before .before .before .level-at .ensures .1) ∙ c .before .before .before .before .before .before .level-at .ensures .0) (sym (c .before .before .before .before .before .is-asked .ensures) ∙ not-false _ (c .before .before .before .before .if2 .left)) (c .before .before .exponent-of .ensures .0)
 
 shl-entry-in :
     tie.Need-shl-entry-in
+    Inv-steps
+    μ-steps
     Inv-bases
     μ-bases
     Inv-kinds
@@ -274,10 +363,21 @@ shl-entry-in :
     μ-processors
     Inv-search
     μ-search
-shl-entry-in c = base-most (c .before .before .before .before .before .before .before .before .before .before .before .before .before .before .before .before .before .args .target) (c .before .before .before .before .before .before .before .before .before .before .before .before .before .before .before .before .before .args .works) (c .before .before .before .before .before .before .before .before .before .before .before .before .before .before .before .before .before .args .n) (c .before .before .before .before .before .before .before .before .before .before .before .before .before .before .before .before .before .args .asid) (c .before .before .before .before .before .before .before .before .before .before .before .before .before .before .before .processors .p) (c .before .before .before .before .before .before .before .before .before .before .before .kinds .j) (c .before .before .before .before .before .before .before .before .before .leaf-at .result) (toZ w8 (ofZ w8 (c .before .before .before .before .before .before .before .before .level-at .result))) (c .before .before .before .before .exponent-of .result) (c .before .before .before .before .before .before .before .before .before .before .before .before .before .before .before .before .before .args .target .last / 2 ^ c .before .before .before .before .exponent-of .result) (c .before .bases .q) (c .before .bases .inv)
+shl-entry-in c =
+    let a = c .before .before .before .before .before .before .before .before .before .before .before .before .before .before .before .before .before .args in
+    let t = a .target in
+    let p = c .before .before .before .before .before .before .before .before .before .before .before .before .before .before .before .processors .p in
+    let j = c .before .before .before .before .before .before .before .before .before .before .before .kinds .j in
+    let leaf = c .before .before .before .before .before .before .before .before .before .leaf-at .result in
+    let level = toZ w8 (ofZ w8 (c .before .before .before .before .before .before .before .before .level-at .result)) in
+    let k = c .before .before .before .before .exponent-of .result in
+    let end = t .last / 2 ^ k in
+    base-most t (a .t1) (a .n) (a .asid) p j leaf level k end (c .before .bases .q) (c .before .bases .inv)
 
 entry-in-requires :
     tie.Need-entry-in-requires
+    Inv-steps
+    μ-steps
     Inv-bases
     μ-bases
     Inv-kinds
@@ -288,8 +388,10 @@ entry-in-requires :
     μ-search
 entry-in-requires c κs = search needs
 
-cover-of-requires :
-    tie.Need-cover-of-requires
+steps-holds :
+    tie.Need-steps-holds
+    Inv-steps
+    μ-steps
     Inv-bases
     μ-bases
     Inv-kinds
@@ -298,12 +400,21 @@ cover-of-requires :
     μ-processors
     Inv-search
     μ-search
-cover-of-requires c κs =
-    let it = legal-here (c .before .before .before .before .before .before .before .before .before .before .before .before .before .before .before .before .before .before .args .target) (c .before .before .before .before .before .before .before .before .before .before .before .before .before .before .before .before .before .before .args .works) (c .before .before .before .before .before .before .before .before .before .before .before .before .before .before .before .before .before .before .args .n) (c .before .before .before .before .before .before .before .before .before .before .before .before .before .before .before .before .before .before .args .asid) (c .before .before .before .before .before .before .before .before .before .before .before .before .before .before .before .before .processors .p) (c .before .before .before .before .before .before .before .before .before .before .before .before .kinds .j) (c .before .before .before .before .before .before .before .before .before .before .leaf-at .result) (toZ w8 (ofZ w8 (c .before .before .before .before .before .before .before .before .before .level-at .result))) (c .before .before .before .before .before .exponent-of .result) (c .before .before .before .before .before .before .before .before .before .before .before .before .before .before .before .before .before .before .args .target .last / 2 ^ c .before .before .before .before .before .exponent-of .result) (c .before .before .bases .q) (c .before .before .bases .inv) (c .before .before .before .before .before .before .before .before .before .before .before .before .before .before .before .before .before .before .pre) (c .before .bases-test .taken) (c .entry-in .result) (c .entry-in .ensures) in
-    (c .before .before .before .before .before .before .before .before .before .before .before .before .before .before .before .before .before .before .pre .most, it .0, it .1, it .2, it .3)
+steps-holds c =
+    let a = c .before .before .before .before .before .before .before .before .before .before .before .before .before .before .before .before .before .before .args in
+    let t = a .target in
+    let p = c .before .before .before .before .before .before .before .before .before .before .before .before .before .before .before .before .processors .p in
+    let j = c .before .before .before .before .before .before .before .before .before .before .before .before .kinds .j in
+    let leaf = c .before .before .before .before .before .before .before .before .before .before .leaf-at .result in
+    let level = toZ w8 (ofZ w8 (c .before .before .before .before .before .before .before .before .before .level-at .result)) in
+    let k = c .before .before .before .before .before .exponent-of .result in
+    let end = t .last / 2 ^ k in
+    (refl, start-steps t (a .t1) (a .n) (a .asid) p j leaf level k end (c .before .before .bases .q) (c .entry-in .result) (c .before .before .bases .inv) (c .before .before .before .before .before .before .before .before .before .before .before .before .before .before .before .before .before .before .pre) (c .before .bases-test .taken) (c .entry-in .ensures))
 
-enum-known-e :
-    tie.Need-enum-known-e
+mul-work :
+    tie.Need-mul-work
+    Inv-steps
+    μ-steps
     Inv-bases
     μ-bases
     Inv-kinds
@@ -312,10 +423,74 @@ enum-known-e :
     μ-processors
     Inv-search
     μ-search
-enum-known-e c = search needs
+mul-work c = search (needs, c .before .before .before .before .before .before .before .before .before .before .before .before .before .before .before .before .before .before .before .before .pre .most, c .steps-test .taken)
+
+array-copy-out-work :
+    tie.Need-array-copy-out-work
+    Inv-steps
+    μ-steps
+    Inv-bases
+    μ-bases
+    Inv-kinds
+    μ-kinds
+    Inv-processors
+    μ-processors
+    Inv-search
+    μ-search
+array-copy-out-work c = search (needs, c .before .before .before .before .before .before .before .before .before .before .before .before .before .before .before .before .before .before .before .before .pre .most, c .steps-test .taken)
+
+is-taken-requires :
+    tie.Need-is-taken-requires
+    Inv-steps
+    μ-steps
+    Inv-bases
+    μ-bases
+    Inv-kinds
+    μ-kinds
+    Inv-processors
+    μ-processors
+    Inv-search
+    μ-search
+is-taken-requires c κs =
+    let a = c .before .before .before .before .before .before .before .before .before .before .before .before .before .before .before .before .before .before .before .before .before .args in
+    let t = a .target in
+    let p = c .before .before .before .before .before .before .before .before .before .before .before .before .before .before .before .before .before .before .before .processors .p in
+    let j = c .before .before .before .before .before .before .before .before .before .before .before .before .before .before .before .kinds .j in
+    let leaf = c .before .before .before .before .before .before .before .before .before .before .before .before .before .leaf-at .result in
+    let level = toZ w8 (ofZ w8 (c .before .before .before .before .before .before .before .before .before .before .before .before .level-at .result)) in
+    let k = c .before .before .before .before .before .before .before .before .exponent-of .result in
+    let end = t .last / 2 ^ k in
+    let s = c .before .before .steps in
+    tries t (a .t1) (a .n) (a .asid) p j leaf level k end (s .q) (s .i) (c .before .before .before .entry-in .result) (s .inv .1) (c .before .before .before .before .before .before .before .before .before .before .before .before .before .before .before .before .before .before .before .before .before .pre) (c .before .steps-test .taken)
+
+shr-q-2 :
+    tie.Need-shr-q-2
+    Inv-steps
+    μ-steps
+    Inv-bases
+    μ-bases
+    Inv-kinds
+    μ-kinds
+    Inv-processors
+    μ-processors
+    Inv-search
+    μ-search
+shr-q-2 c =
+    let a = c .before .before .before .before .before .before .before .before .before .before .before .before .before .before .before .before .before .before .before .before .before .before .before .before .args in
+    let t = a .target in
+    let p = c .before .before .before .before .before .before .before .before .before .before .before .before .before .before .before .before .before .before .before .before .before .before .processors .p in
+    let j = c .before .before .before .before .before .before .before .before .before .before .before .before .before .before .before .before .before .before .kinds .j in
+    let leaf = c .before .before .before .before .before .before .before .before .before .before .before .before .before .before .before .before .leaf-at .result in
+    let level = toZ w8 (ofZ w8 (c .before .before .before .before .before .before .before .before .before .before .before .before .before .before .before .level-at .result)) in
+    let k = c .before .before .before .before .before .before .before .before .before .before .before .exponent-of .result in
+    let end = t .last / 2 ^ k in
+    let s = c .before .before .before .before .before .steps in
+    base-most t (a .t1) (a .n) (a .asid) p j leaf level k end (s .q) (s .inv .1 .outer)
 
 add-q :
     tie.Need-add-q
+    Inv-steps
+    μ-steps
     Inv-bases
     μ-bases
     Inv-kinds
@@ -324,10 +499,23 @@ add-q :
     μ-processors
     Inv-search
     μ-search
-add-q c = let r = (covers-to (c .before .before .before .before .before .before .before .before .before .before .before .before .before .before .before .before .before .before .before .before .before .before .args .works) (c .before .before .before .before .before .before .before .before .before .before .before .before .before .before .before .before .before .before .before .before .before .before .args .n) (c .before .before .before .before .entry-in .result) (c .before .before .before .before .before .before .before .before .before .exponent-of .result) (c .before .e .given .0 .0) (c .before .before .before .cover-of .result) (c .before .e .given .1) (c .before .before .before .cover-of .ensures)) in omega (arith, r .most)
+add-q c =
+    let a = c .before .before .before .before .before .before .before .before .before .before .before .before .before .before .before .before .before .before .before .before .before .before .before .before .args in
+    let t = a .target in
+    let p = c .before .before .before .before .before .before .before .before .before .before .before .before .before .before .before .before .before .before .before .before .before .before .processors .p in
+    let j = c .before .before .before .before .before .before .before .before .before .before .before .before .before .before .before .before .before .before .kinds .j in
+    let leaf = c .before .before .before .before .before .before .before .before .before .before .before .before .before .before .before .before .leaf-at .result in
+    let level = toZ w8 (ofZ w8 (c .before .before .before .before .before .before .before .before .before .before .before .before .before .before .before .level-at .result)) in
+    let k = c .before .before .before .before .before .before .before .before .before .before .before .exponent-of .result in
+    let end = t .last / 2 ^ k in
+    let s = c .before .before .before .before .before .steps in
+    let it = past-step t (a .t1) (a .n) (a .asid) p j leaf level k end (s .q) (s .i) (c .before .before .before .before .before .before .entry-in .result) (s .inv .1) (c .before .before .before .before .steps-test .taken) (sym (c .before .before .is-taken .ensures) ∙ c .before .if3 .taken) (omega arith) in
+    omega (arith, it .1)
 
 bases-less :
     tie.Need-bases-less
+    Inv-steps
+    μ-steps
     Inv-bases
     μ-bases
     Inv-kinds
@@ -336,10 +524,23 @@ bases-less :
     μ-processors
     Inv-search
     μ-search
-bases-less c = let on = jump (c .before .before .before .before .before .before .before .before .before .before .before .before .before .before .before .before .before .before .before .before .before .before .args .target) (c .before .before .before .before .before .before .before .before .before .before .before .before .before .before .before .before .before .before .before .before .before .before .args .works) (c .before .before .before .before .before .before .before .before .before .before .before .before .before .before .before .before .before .before .before .before .before .before .args .n) (c .before .before .before .before .before .before .before .before .before .before .before .before .before .before .before .before .before .before .before .before .before .before .args .asid) (c .before .before .before .before .before .before .before .before .before .before .before .before .before .before .before .before .before .before .before .before .processors .p) (c .before .before .before .before .before .before .before .before .before .before .before .before .before .before .before .before .kinds .j) (c .before .before .before .before .before .before .before .before .before .before .before .before .before .before .leaf-at .result) (toZ w8 (ofZ w8 (c .before .before .before .before .before .before .before .before .before .before .before .before .before .level-at .result))) (c .before .before .before .before .before .before .before .before .before .exponent-of .result) (c .before .before .before .before .before .before .before .before .before .before .before .before .before .before .before .before .before .before .before .before .before .before .args .target .last / 2 ^ c .before .before .before .before .before .before .before .before .before .exponent-of .result) (c .before .before .before .before .before .before .bases .q) (c .before .e .given .0 .0) (c .before .before .before .before .before .before .bases .inv) (c .before .before .before .before .entry-in .result) (c .before .before .before .before .entry-in .ensures ∙ entry-here (c .before .before .before .before .before .before .before .before .before .before .before .before .before .before .before .before .before .before .before .before .before .before .args .target) (c .before .before .before .before .before .before .before .before .before .before .before .before .before .before .before .before .before .before .before .before .before .before .args .works) (c .before .before .before .before .before .before .before .before .before .before .before .before .before .before .before .before .before .before .before .before .before .before .args .n) (c .before .before .before .before .before .before .before .before .before .before .before .before .before .before .before .before .before .before .before .before .before .before .args .asid) (c .before .before .before .before .before .before .before .before .before .before .before .before .before .before .before .before .before .before .before .before .processors .p) (c .before .before .before .before .before .before .before .before .before .before .before .before .before .before .before .before .kinds .j) (c .before .before .before .before .before .before .before .before .before .before .before .before .before .before .leaf-at .result) (toZ w8 (ofZ w8 (c .before .before .before .before .before .before .before .before .before .before .before .before .before .level-at .result))) (c .before .before .before .before .before .before .before .before .before .exponent-of .result) (c .before .before .before .before .before .before .before .before .before .before .before .before .before .before .before .before .before .before .before .before .before .before .args .target .last / 2 ^ c .before .before .before .before .before .before .before .before .before .exponent-of .result) (c .before .before .before .before .before .before .bases .q) (c .before .before .before .before .before .before .bases .inv) (c .before .before .before .before .before .before .before .before .before .before .before .before .before .before .before .before .before .before .before .before .before .before .pre .last) (c .before .before .before .before .before .bases-test .taken)) (covers-to (c .before .before .before .before .before .before .before .before .before .before .before .before .before .before .before .before .before .before .before .before .before .before .args .works) (c .before .before .before .before .before .before .before .before .before .before .before .before .before .before .before .before .before .before .before .before .before .before .args .n) (c .before .before .before .before .entry-in .result) (c .before .before .before .before .before .before .before .before .before .exponent-of .result) (c .before .e .given .0 .0) (c .before .before .before .cover-of .result) (c .before .e .given .1) (c .before .before .before .cover-of .ensures)) in omega (arith, on .0)
+bases-less c =
+    let a = c .before .before .before .before .before .before .before .before .before .before .before .before .before .before .before .before .before .before .before .before .before .before .before .before .args in
+    let t = a .target in
+    let p = c .before .before .before .before .before .before .before .before .before .before .before .before .before .before .before .before .before .before .before .before .before .before .processors .p in
+    let j = c .before .before .before .before .before .before .before .before .before .before .before .before .before .before .before .before .before .before .kinds .j in
+    let leaf = c .before .before .before .before .before .before .before .before .before .before .before .before .before .before .before .before .leaf-at .result in
+    let level = toZ w8 (ofZ w8 (c .before .before .before .before .before .before .before .before .before .before .before .before .before .before .before .level-at .result)) in
+    let k = c .before .before .before .before .before .before .before .before .before .before .before .exponent-of .result in
+    let end = t .last / 2 ^ k in
+    let s = c .before .before .before .before .before .steps in
+    let it = past-step t (a .t1) (a .n) (a .asid) p j leaf level k end (s .q) (s .i) (c .before .before .before .before .before .before .entry-in .result) (s .inv .1) (c .before .before .before .before .steps-test .taken) (sym (c .before .before .is-taken .ensures) ∙ c .before .if3 .taken) (omega arith) in
+    omega (arith, it .0, s .inv .0, s .inv .1 .within)
 
 bases-again :
     tie.Need-bases-again
+    Inv-steps
+    μ-steps
     Inv-bases
     μ-bases
     Inv-kinds
@@ -348,10 +549,23 @@ bases-again :
     μ-processors
     Inv-search
     μ-search
-bases-again c = let it = jump (c .before .before .before .before .before .before .before .before .before .before .before .before .before .before .before .before .before .before .before .before .before .before .args .target) (c .before .before .before .before .before .before .before .before .before .before .before .before .before .before .before .before .before .before .before .before .before .before .args .works) (c .before .before .before .before .before .before .before .before .before .before .before .before .before .before .before .before .before .before .before .before .before .before .args .n) (c .before .before .before .before .before .before .before .before .before .before .before .before .before .before .before .before .before .before .before .before .before .before .args .asid) (c .before .before .before .before .before .before .before .before .before .before .before .before .before .before .before .before .before .before .before .before .processors .p) (c .before .before .before .before .before .before .before .before .before .before .before .before .before .before .before .before .kinds .j) (c .before .before .before .before .before .before .before .before .before .before .before .before .before .before .leaf-at .result) (toZ w8 (ofZ w8 (c .before .before .before .before .before .before .before .before .before .before .before .before .before .level-at .result))) (c .before .before .before .before .before .before .before .before .before .exponent-of .result) (c .before .before .before .before .before .before .before .before .before .before .before .before .before .before .before .before .before .before .before .before .before .before .args .target .last / 2 ^ c .before .before .before .before .before .before .before .before .before .exponent-of .result) (c .before .before .before .before .before .before .bases .q) (c .before .e .given .0 .0) (c .before .before .before .before .before .before .bases .inv) (c .before .before .before .before .entry-in .result) (c .before .before .before .before .entry-in .ensures ∙ entry-here (c .before .before .before .before .before .before .before .before .before .before .before .before .before .before .before .before .before .before .before .before .before .before .args .target) (c .before .before .before .before .before .before .before .before .before .before .before .before .before .before .before .before .before .before .before .before .before .before .args .works) (c .before .before .before .before .before .before .before .before .before .before .before .before .before .before .before .before .before .before .before .before .before .before .args .n) (c .before .before .before .before .before .before .before .before .before .before .before .before .before .before .before .before .before .before .before .before .before .before .args .asid) (c .before .before .before .before .before .before .before .before .before .before .before .before .before .before .before .before .before .before .before .before .processors .p) (c .before .before .before .before .before .before .before .before .before .before .before .before .before .before .before .before .kinds .j) (c .before .before .before .before .before .before .before .before .before .before .before .before .before .before .leaf-at .result) (toZ w8 (ofZ w8 (c .before .before .before .before .before .before .before .before .before .before .before .before .before .level-at .result))) (c .before .before .before .before .before .before .before .before .before .exponent-of .result) (c .before .before .before .before .before .before .before .before .before .before .before .before .before .before .before .before .before .before .before .before .before .before .args .target .last / 2 ^ c .before .before .before .before .before .before .before .before .before .exponent-of .result) (c .before .before .before .before .before .before .bases .q) (c .before .before .before .before .before .before .bases .inv) (c .before .before .before .before .before .before .before .before .before .before .before .before .before .before .before .before .before .before .before .before .before .before .pre .last) (c .before .before .before .before .before .bases-test .taken)) (covers-to (c .before .before .before .before .before .before .before .before .before .before .before .before .before .before .before .before .before .before .before .before .before .before .args .works) (c .before .before .before .before .before .before .before .before .before .before .before .before .before .before .before .before .before .before .before .before .before .before .args .n) (c .before .before .before .before .entry-in .result) (c .before .before .before .before .before .before .before .before .before .exponent-of .result) (c .before .e .given .0 .0) (c .before .before .before .cover-of .result) (c .before .e .given .1) (c .before .before .before .cover-of .ensures)) in it .1
+bases-again c =
+    let a = c .before .before .before .before .before .before .before .before .before .before .before .before .before .before .before .before .before .before .before .before .before .before .before .before .args in
+    let t = a .target in
+    let p = c .before .before .before .before .before .before .before .before .before .before .before .before .before .before .before .before .before .before .before .before .before .before .processors .p in
+    let j = c .before .before .before .before .before .before .before .before .before .before .before .before .before .before .before .before .before .before .kinds .j in
+    let leaf = c .before .before .before .before .before .before .before .before .before .before .before .before .before .before .before .before .leaf-at .result in
+    let level = toZ w8 (ofZ w8 (c .before .before .before .before .before .before .before .before .before .before .before .before .before .before .before .level-at .result)) in
+    let k = c .before .before .before .before .before .before .before .before .before .before .before .exponent-of .result in
+    let end = t .last / 2 ^ k in
+    let s = c .before .before .before .before .before .steps in
+    let it = past-step t (a .t1) (a .n) (a .asid) p j leaf level k end (s .q) (s .i) (c .before .before .before .before .before .before .entry-in .result) (s .inv .1) (c .before .before .before .before .steps-test .taken) (sym (c .before .before .is-taken .ensures) ∙ c .before .if3 .taken) (omega arith) in
+    it .2
 
-enum-told :
-    tie.Need-enum-told
+add-i :
+    tie.Need-add-i
+    Inv-steps
+    μ-steps
     Inv-bases
     μ-bases
     Inv-kinds
@@ -360,10 +574,50 @@ enum-told :
     μ-processors
     Inv-search
     μ-search
-enum-told c = search needs
+add-i c = search (needs, c .before .before .before .before .before .before .before .before .before .before .before .before .before .before .before .before .before .before .before .before .before .before .before .pre .most, c .before .before .before .steps-test .taken)
+
+steps-less :
+    tie.Need-steps-less
+    Inv-steps
+    μ-steps
+    Inv-bases
+    μ-bases
+    Inv-kinds
+    μ-kinds
+    Inv-processors
+    μ-processors
+    Inv-search
+    μ-search
+steps-less c = search needs
+
+steps-again :
+    tie.Need-steps-again
+    Inv-steps
+    μ-steps
+    Inv-bases
+    μ-bases
+    Inv-kinds
+    μ-kinds
+    Inv-processors
+    μ-processors
+    Inv-search
+    μ-search
+steps-again c =
+    let a = c .before .before .before .before .before .before .before .before .before .before .before .before .before .before .before .before .before .before .before .before .before .before .before .args in
+    let t = a .target in
+    let p = c .before .before .before .before .before .before .before .before .before .before .before .before .before .before .before .before .before .before .before .before .before .processors .p in
+    let j = c .before .before .before .before .before .before .before .before .before .before .before .before .before .before .before .before .before .kinds .j in
+    let leaf = c .before .before .before .before .before .before .before .before .before .before .before .before .before .before .before .leaf-at .result in
+    let level = toZ w8 (ofZ w8 (c .before .before .before .before .before .before .before .before .before .before .before .before .before .before .level-at .result)) in
+    let k = c .before .before .before .before .before .before .before .before .before .before .exponent-of .result in
+    let end = t .last / 2 ^ k in
+    let s = c .before .before .before .before .steps in
+    (s .inv .0, next-step t (a .t1) (a .n) (a .asid) p j leaf level k end (s .q) (s .i) (c .before .before .before .before .before .entry-in .result) (s .inv .1) (c .before .before .before .steps-test .taken) (sym (c .before .is-taken .ensures) ∙ c .if3 .left))
 
 add-j-2 :
     tie.Need-add-j-2
+    Inv-steps
+    μ-steps
     Inv-bases
     μ-bases
     Inv-kinds
@@ -376,6 +630,8 @@ add-j-2 c = search needs
 
 kinds-less-2 :
     tie.Need-kinds-less-2
+    Inv-steps
+    μ-steps
     Inv-bases
     μ-bases
     Inv-kinds
@@ -388,6 +644,8 @@ kinds-less-2 c = search needs
 
 kinds-again-2 :
     tie.Need-kinds-again-2
+    Inv-steps
+    μ-steps
     Inv-bases
     μ-bases
     Inv-kinds
@@ -396,10 +654,21 @@ kinds-again-2 :
     μ-processors
     Inv-search
     μ-search
-kinds-again-2 c = leave-kind (c .before .before .before .before .before .before .before .before .before .before .before .before .before .before .before .before .before .args .target) (c .before .before .before .before .before .before .before .before .before .before .before .before .before .before .before .before .before .args .works) (c .before .before .before .before .before .before .before .before .before .before .before .before .before .before .before .before .before .args .n) (c .before .before .before .before .before .before .before .before .before .before .before .before .before .before .before .before .before .args .asid) (c .before .before .before .before .before .before .before .before .before .before .before .before .before .before .before .processors .p) (c .before .before .before .before .before .before .before .before .before .before .before .kinds .j) (c .before .before .before .before .before .before .before .before .before .leaf-at .result) (toZ w8 (ofZ w8 (c .before .before .before .before .before .before .before .before .level-at .result))) (c .before .before .before .before .exponent-of .result) (c .before .before .before .before .before .before .before .before .before .before .before .before .before .before .before .before .before .args .target .last / 2 ^ c .before .before .before .before .exponent-of .result) (c .before .bases .q) (c .before .bases .inv) (c .bases-test .left)
+kinds-again-2 c =
+    let a = c .before .before .before .before .before .before .before .before .before .before .before .before .before .before .before .before .before .args in
+    let t = a .target in
+    let p = c .before .before .before .before .before .before .before .before .before .before .before .before .before .before .before .processors .p in
+    let j = c .before .before .before .before .before .before .before .before .before .before .before .kinds .j in
+    let leaf = c .before .before .before .before .before .before .before .before .before .leaf-at .result in
+    let level = toZ w8 (ofZ w8 (c .before .before .before .before .before .before .before .before .level-at .result)) in
+    let k = c .before .before .before .before .exponent-of .result in
+    let end = t .last / 2 ^ k in
+    leave-kind t (a .t1) (a .n) (a .asid) p j leaf level k end (c .before .bases .q) (c .before .bases .inv) (c .bases-test .left)
 
 add-p-2 :
     tie.Need-add-p-2
+    Inv-steps
+    μ-steps
     Inv-bases
     μ-bases
     Inv-kinds
@@ -412,6 +681,8 @@ add-p-2 c = search needs
 
 processors-less-2 :
     tie.Need-processors-less-2
+    Inv-steps
+    μ-steps
     Inv-bases
     μ-bases
     Inv-kinds
@@ -424,6 +695,8 @@ processors-less-2 c = search needs
 
 processors-again-2 :
     tie.Need-processors-again-2
+    Inv-steps
+    μ-steps
     Inv-bases
     μ-bases
     Inv-kinds
@@ -432,10 +705,16 @@ processors-again-2 :
     μ-processors
     Inv-search
     μ-search
-processors-again-2 c = leave-processor (c .before .before .before .before .before .before .before .args .target) (c .before .before .before .before .before .before .before .args .works) (c .before .before .before .before .before .before .before .args .n) (c .before .before .before .before .before .before .before .args .asid) (c .before .before .before .before .before .processors .p) (c .before .kinds .j) (c .before .kinds .inv) (c .kinds-test .left)
+processors-again-2 c =
+    let a = c .before .before .before .before .before .before .before .args in
+    let t = a .target in
+    let p = c .before .before .before .before .before .processors .p in
+    leave-processor t (a .t1) (a .n) (a .asid) p (c .before .kinds .j) (c .before .kinds .inv) (c .kinds-test .left)
 
 returns :
     tie.Need-returns
+    Inv-steps
+    μ-steps
     Inv-bases
     μ-bases
     Inv-kinds
@@ -444,10 +723,22 @@ returns :
     μ-processors
     Inv-search
     μ-search
-returns c = gap (c .before .before .before .before .before .before .before .before .before .before .before .before .before .before .before .before .before .before .before .before .before .args .target) (c .before .before .before .before .before .before .before .before .before .before .before .before .before .before .before .before .before .before .before .before .before .args .works) (c .before .before .before .before .before .before .before .before .before .before .before .before .before .before .before .before .before .before .before .before .before .args .n) (c .before .before .before .before .before .before .before .before .before .before .before .before .before .before .before .before .before .before .before .before .before .args .asid) (c .before .before .before .before .before .before .before .before .before .before .before .before .before .before .before .before .before .before .before .processors .p) (c .before .before .before .before .before .before .before .before .before .before .before .before .before .before .before .kinds .j) (c .before .before .before .before .before .before .before .before .before .before .before .before .before .leaf-at .result) (toZ w8 (ofZ w8 (c .before .before .before .before .before .before .before .before .before .before .before .before .level-at .result))) (c .before .before .before .before .before .before .before .before .exponent-of .result) (c .before .before .before .before .before .before .before .before .before .before .before .before .before .before .before .before .before .before .before .before .before .args .target .last / 2 ^ c .before .before .before .before .before .before .before .before .exponent-of .result) (c .before .before .before .before .before .bases .q) (c .before .before .before .before .before .bases .inv) (c .before .before .before .before .bases-test .taken) (c .before .before .before .entry-in .result) (c .before .before .before .entry-in .ensures ∙ entry-here (c .before .before .before .before .before .before .before .before .before .before .before .before .before .before .before .before .before .before .before .before .before .args .target) (c .before .before .before .before .before .before .before .before .before .before .before .before .before .before .before .before .before .before .before .before .before .args .works) (c .before .before .before .before .before .before .before .before .before .before .before .before .before .before .before .before .before .before .before .before .before .args .n) (c .before .before .before .before .before .before .before .before .before .before .before .before .before .before .before .before .before .before .before .before .before .args .asid) (c .before .before .before .before .before .before .before .before .before .before .before .before .before .before .before .before .before .before .before .processors .p) (c .before .before .before .before .before .before .before .before .before .before .before .before .before .before .before .kinds .j) (c .before .before .before .before .before .before .before .before .before .before .before .before .before .leaf-at .result) (toZ w8 (ofZ w8 (c .before .before .before .before .before .before .before .before .before .before .before .before .level-at .result))) (c .before .before .before .before .before .before .before .before .exponent-of .result) (c .before .before .before .before .before .before .before .before .before .before .before .before .before .before .before .before .before .before .before .before .before .args .target .last / 2 ^ c .before .before .before .before .before .before .before .before .exponent-of .result) (c .before .before .before .before .before .bases .q) (c .before .before .before .before .before .bases .inv) (c .before .before .before .before .before .before .before .before .before .before .before .before .before .before .before .before .before .before .before .before .before .pre .last) (c .before .before .before .before .bases-test .taken)) (covers-open (c .before .before .before .before .before .before .before .before .before .before .before .before .before .before .before .before .before .before .before .before .before .args .works) (c .before .before .before .before .before .before .before .before .before .before .before .before .before .before .before .before .before .before .before .before .before .args .n) (c .before .before .before .entry-in .result) (c .before .before .before .before .before .before .before .before .exponent-of .result) (c .before .before .cover-of .result) (c .enum-told .given .1) (c .before .before .cover-of .ensures))
+returns c =
+    let a = c .before .before .before .before .before .before .before .before .before .before .before .before .before .before .before .before .before .before .before .before .args in
+    let t = a .target in
+    let p = c .before .before .before .before .before .before .before .before .before .before .before .before .before .before .before .before .before .before .processors .p in
+    let j = c .before .before .before .before .before .before .before .before .before .before .before .before .before .before .kinds .j in
+    let leaf = c .before .before .before .before .before .before .before .before .before .before .before .before .leaf-at .result in
+    let level = toZ w8 (ofZ w8 (c .before .before .before .before .before .before .before .before .before .before .before .level-at .result)) in
+    let k = c .before .before .before .before .before .before .before .exponent-of .result in
+    let end = t .last / 2 ^ k in
+    let s = c .before .steps in
+    gap-after t (a .t1) (a .n) (a .asid) p j leaf level k end (s .q) (s .i) (c .before .before .entry-in .result) (s .inv .1) (c .steps-test .left)
 
 returns-2 :
     tie.Need-returns-2
+    Inv-steps
+    μ-steps
     Inv-bases
     μ-bases
     Inv-kinds
@@ -456,12 +747,18 @@ returns-2 :
     μ-processors
     Inv-search
     μ-search
-returns-2 c = finish (c .before .before .before .args .target) (c .before .before .before .args .works) (c .before .before .before .args .n) (c .before .before .before .args .asid) (c .before .processors .p) (c .before .processors .inv) (c .processors-test .left)
+returns-2 c =
+    let a = c .before .before .before .args in
+    let t = a .target in
+    let p = c .before .processors .p in
+    finish t (a .t1) (a .n) (a .asid) p (c .before .processors .inv) (c .processors-test .left)
 
 pub search-spec : {M : Type 1} → statement M
 search-spec =
     tie.close
     (tie.spec
+    Inv-steps
+    μ-steps
     Inv-bases
     μ-bases
     Inv-kinds
@@ -491,12 +788,17 @@ search-spec =
     bases-holds
     shl-entry-in
     entry-in-requires
-    cover-of-requires
-    enum-known-e
+    steps-holds
+    mul-work
+    array-copy-out-work
+    is-taken-requires
+    shr-q-2
     add-q
     bases-less
     bases-again
-    enum-told
+    add-i
+    steps-less
+    steps-again
     add-j-2
     kinds-less-2
     kinds-again-2
