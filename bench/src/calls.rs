@@ -2,6 +2,7 @@
 
 use crate::plain;
 use crate::records::*;
+use crate::shim;
 
 pub struct Calls {
     pub insert: unsafe extern "C" fn(*mut u64, usize, *const Entry, u64, *mut Inserted) -> u32,
@@ -51,16 +52,16 @@ pub static LIBRARY: Calls = Calls {
 };
 
 pub static PLAIN: Calls = Calls {
-    insert: plain::insert,
-    look_up: plain::look_up,
+    insert: shim::insert,
+    look_up: shim::look_up,
     read_slot: plain::read_slot,
-    execute: plain::execute,
-    run: plain::run,
-    judge: plain::judge,
+    execute: shim::execute,
+    run: shim::run,
+    judge: shim::judge,
     decode: plain::decode,
-    build: plain::build,
-    read_operand: plain::read_operand,
-    write_operand: plain::write_operand,
+    build: shim::build,
+    read_operand: shim::read_operand,
+    write_operand: shim::write_operand,
     list: plain::list,
     tail: plain::tail,
 };

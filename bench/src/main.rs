@@ -6,6 +6,7 @@ mod cases;
 mod inputs;
 mod plain;
 mod records;
+mod shim;
 mod stack;
 mod time;
 
