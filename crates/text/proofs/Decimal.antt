@@ -1,8 +1,8 @@
--- A number in decimal: its last digit, the digits before it, and how many there are at most.
+-- A number in decimal: its last digit or two, the digits before them, and how many there are at most.
 use Prim.Native.Nat.{ℕ, zero, suc, _+_, _/_, _%_, _^_, _≤_, _<_}
 use mathlib.Core.Path.{_≡_, refl, sym, ap}
 use mathlib.Core.Bool.{Bool, true, false, cond}
-use mathlib.Core.List.{List, [], _∷_, _++_}
+use mathlib.Core.List.{List, [], _∷_, _++_, append-assoc}
 use native.Mathlib.Nat.{pow-suc, le-refl}
 use native.Mathlib.Decide.{decLt}
 use native.Mathlib.Omega.{arith}
@@ -38,6 +38,25 @@ decimal-more x h l =
     let less : x / 10 < 10 ^ 19 = omega arith in
     simp (le-ltb x 10 h) (ap (λ (d : List ℕ). d ++ ((48 + x % 10) ∷ [])) (sym (spare 18 (x / 10) less)))
 
+-- a number of two digits is those
+pub decimal-pair : (x : ℕ) → 10 ≤ x → x < 100 → decimalOf x ≡ (48 + x / 10) ∷ (48 + x % 10) ∷ []
+decimal-pair x h l =
+    let f : x < 2 ^ 64 = omega arith in
+    let t : x / 10 < 10 = omega arith in
+    rw (decimal-more x h f, decimal-last (x / 10) t) refl
+
+-- a larger one is the digits of its hundredth, and then the two of the rest, of which the first may be 0
+pub decimal-hundreds : (x : ℕ) → 100 ≤ x → x < 2 ^ 64 → decimalOf x ≡ decimalOf (x / 100) ++ ((48 + x % 100 / 10) ∷ (48 + x % 100 % 10) ∷ [])
+decimal-hundreds x h l =
+    let m : 10 ≤ x = omega arith in
+    let t : 10 ≤ x / 10 = omega arith in
+    let f : x / 10 < 2 ^ 64 = omega arith in
+    let hundredth : x / 10 / 10 ≡ x / 100 = omega arith in
+    let tens : x / 10 % 10 ≡ x % 100 / 10 = omega arith in
+    let ones : x % 10 ≡ x % 100 % 10 = omega arith in
+    rw (decimal-more x m l, decimal-more (x / 10) t f, hundredth, tens, ones)
+    (append-assoc (decimalOf (x / 100)) ((48 + x % 100 / 10) ∷ []) ((48 + x % 100 % 10) ∷ []))
+
 few : (k x : ℕ) → length (digits k x) ≤ k
 unfolding digits
 few zero x = omega arith
@@ -56,9 +75,7 @@ decimal-two x h = go (decLt x 10)
     go (yes l) = rw (decimal-last x l) (lit≤ tt)
     go (no l) =
         let m : 10 ≤ x = omega arith in
-        let f : x < 2 ^ 64 = omega arith in
-        let t : x / 10 < 10 = omega arith in
-        rw (decimal-more x m f, decimal-last (x / 10) t) (lit≤ tt)
+        rw (decimal-pair x m h) (lit≤ tt)
 
 -- a number has at most 20 digits
 pub decimal-few : (x : ℕ) → length (decimalOf x) ≤ 20
@@ -68,6 +85,9 @@ decimal-few x = few 20 x
 pub put-last : {b a : List ℕ} {n r : ℕ} (x : ℕ) → x < 10 → Put b n a r ((48 + x) ∷ []) 1 → Put b n a r (decimalOf x) 20
 put-last x h p = putAs p (lit≤ tt) (sym (decimal-last x h))
 
-pub put-more : {b m a : List ℕ} {n r q : ℕ} (x : ℕ) → 10 ≤ x → x < 2 ^ 64 →
-    Put b n m r (decimalOf (x / 10)) 20 → Put m r a q ((48 + x % 10) ∷ []) 1 → Put b n a q (decimalOf x) 20
-put-more x h l p d = putMost 20 (putAs (andThen 20 1 p d) (le-refl 21) (sym (decimal-more x h l))) (decimal-few x)
+pub put-pair : {b a : List ℕ} {n r : ℕ} (x : ℕ) → 10 ≤ x → x < 100 → Put b n a r ((48 + x / 10) ∷ (48 + x % 10) ∷ []) 2 → Put b n a r (decimalOf x) 20
+put-pair x h l p = putAs p (lit≤ tt) (sym (decimal-pair x h l))
+
+pub put-hundreds : {b m a : List ℕ} {n r q : ℕ} (x : ℕ) → 100 ≤ x → x < 2 ^ 64 →
+    Put b n m r (decimalOf (x / 100)) 20 → Put m r a q ((48 + x % 100 / 10) ∷ (48 + x % 100 % 10) ∷ []) 2 → Put b n a q (decimalOf x) 20
+put-hundreds x h l p d = putMost 20 (putAs (andThen 20 2 p d) (le-refl 22) (sym (decimal-hundreds x h l))) (decimal-few x)

@@ -1,6 +1,6 @@
 // Text put together in a buffer: its first n bytes are the text so far, and a put answers how many they are then.
 ghost use mathlib.Core.List.{[], _∷_};
-ghost use Prim.Native.Nat.{_+_, _≤_, _<_};
+ghost use Prim.Native.Nat.{_+_, _/_, _%_, _≤_, _<_};
 ghost use lib.ListN.{length};
 ghost use Rattle.machine.specs.Text.{decimalOf};
 ghost use Rattle.text.specs.Put.{Put};
@@ -25,15 +25,26 @@ pub fn put_text(out: &mut [u8], n: usize, text: &[u8]) -> usize
     n + j
 }
 
-// The digits of the tenth, then the last one: at most 20 for a number of 64 bits.
+// Two digits a turn, for half the recursive calls: those of the hundredth, then the last two. At most 20 for a number of 64 bits.
 pub fn put_number(out: &mut [u8], n: usize, x: u64) -> usize
     requires { ⌜ n + length (decimalOf x) ≤ length (now out) ⌝ }
     ensures { λ r. ⌜ Put (now (out .entry)) n (now (out .exit)) r (decimalOf x) 20 ⌝ }
 {
     if x < 10 {
-        put_byte(out, n, 48 + x as u8)
-    } else {
-        let k = put_number(out, n, x / 10);
-        put_byte(out, k, 48 + (x % 10) as u8)
+        return put_byte(out, n, 48 + x as u8);
     }
+    if x < 100 {
+        return put_two(out, n, x);
+    }
+    let k = put_number(out, n, x / 100);
+    put_two(out, k, x % 100)
+}
+
+// The two digits of a number below 100, the first of which may be 0.
+fn put_two(out: &mut [u8], n: usize, x: u64) -> usize
+    requires { ⌜ (x < 100) × (n + 2 ≤ length (now out)) ⌝ }
+    ensures { λ r. ⌜ Put (now (out .entry)) n (now (out .exit)) r ((48 + x / 10) ∷ (48 + x % 10) ∷ []) 2 ⌝ }
+{
+    let k = put_byte(out, n, 48 + (x / 10) as u8);
+    put_byte(out, k, 48 + (x % 10) as u8)
 }
