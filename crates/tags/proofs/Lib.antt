@@ -1,2 +1,3 @@
 -- Laws of what stands in a tag.
+pub mod Numbers
 pub mod Parts

@@ -1,13 +1,14 @@
 // What a slot's base and tag read as.
+ghost use mathlib.Core.Bool.{not, _&&_, _||_};
 ghost use mathlib.Core.Path.{_≡_};
-ghost use Rattle.machine.specs.Entry.{spanOf};
+ghost use lib.Dec.{eqb};
+ghost use Rattle.laws.specs.Bits.{bits};
+ghost use Rattle.laws.specs.Mask.{bitOf};
+ghost use Rattle.machine.specs.Entry.{isCompany, hasAsids, inReach, spanOf};
 ghost use Rattle.machine.specs.Tag.{companyAt, entryAt, isEntry};
 use crate::number::level_at;
 use crate::number::regime_at;
 use crate::number::security_at;
-use entries::has_asids;
-use entries::in_reach;
-use entries::is_company;
 use entries::is_placed;
 use machine::Company;
 use machine::Entry;
@@ -55,11 +56,54 @@ pub fn span_at(tag: u64) -> u64
     exponent_at(wide, tag / 0x4000000 % 4, tag / 0x400000000000 % 8)
 }
 
+// Whose a slot is, by the numbers of its tag: an entry can have that company.
+fn is_company_at(tag: u64) -> bool
+    ensures { λ r. ⌜ r ≡ isCompany (companyAt tag) ⌝ }
+{
+    // "IPA space (as NS; Secure stage 2 only, else 0)", and stage 2 is EL1&0
+    if tag / 0x2000000 % 2 == 1 {
+        return (tag / 0x10 % 16 == 0) & (tag / 0x1000000 % 2 == 1);
+    }
+    // EL1&0 is never Root
+    if tag / 0x10 % 4 == 0 {
+        return tag / 0x40 % 4 != 3;
+    }
+    // elsewhere VMID and stage, side by side, are 0
+    if tag / 0x100 % 0x20000 != 0 {
+        return false;
+    }
+    // "EL3's state is Root or Secure; other regimes are never Root."
+    let security = tag / 0x40 % 4;
+    if tag / 0x10 % 4 == 3 {
+        (security == 3) | (security == 0)
+    } else {
+        security != 3
+    }
+}
+
+// The base is in reach of the tag's company, which has no ASID and no global flag where there are none.
+fn is_reach_at(base: u64, tag: u64) -> bool
+    ensures { λ r. ⌜ r ≡ ((hasAsids (companyAt tag) || (eqb (bits 43 28 tag) 0 && not (bitOf tag 44))) && inReach (companyAt tag) base) ⌝ }
+{
+    // stage 1 of EL1&0 or EL2&0, which are regimes 0 and 1
+    let two = (tag / 0x20 % 2 == 0) & (tag / 0x1000000 % 2 == 0);
+    if two {
+        let top = base / 0x80000000000000;
+        (top == 0) | (top == 511)
+    } else {
+        // ASID and global flag, side by side, are 0
+        (tag / 0x10000000 % 0x20000 == 0) & (base < 0x100000000000000)
+    }
+}
+
 // The layout number, nothing above bit 53, and the fields of a legal entry, which is not made: a table's every slot is tested.
 pub fn is_entry(base: u64, tag: u64) -> bool
     ensures { λ r. ⌜ r ≡ isEntry base tag ⌝ }
 {
     if tag % 16 != 1 {
+        return false;
+    }
+    if 0x40000000000000 <= tag {
         return false;
     }
     let k = span_at(tag);
@@ -69,11 +113,10 @@ pub fn is_entry(base: u64, tag: u64) -> bool
     if tag / 0x4000000 % 4 == 0 {
         return false;
     }
-    if 0x40000000000000 <= tag {
+    if !is_multiple(base, k) {
         return false;
     }
-    let company = company_at(tag);
-    if !is_company(company) {
+    if !is_company_at(tag) {
         return false;
     }
     let leaf = tag / 0x2000000000000 % 2 == 1;
@@ -82,10 +125,5 @@ pub fn is_entry(base: u64, tag: u64) -> bool
     if !is_placed(leaf, level, global) {
         return false;
     }
-    if !is_multiple(base, k) {
-        return false;
-    }
-    let asids = has_asids(company);
-    let reached = in_reach(company, base);
-    (asids | ((tag / 0x10000000 % 65536 == 0) & !global)) & reached
+    is_reach_at(base, tag)
 }
