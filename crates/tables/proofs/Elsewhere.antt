@@ -9,15 +9,16 @@ use borrow.Author.Tests.{eqb-true}
 use Rattle.laws.proofs.Aligned.{whole}
 use Rattle.laws.proofs.Truth.{and-0, and-1, not-so}
 use Rattle.laws.specs.Bits.{bits}
+use Rattle.laws.specs.Mask.{bitOf}
 use Rattle.machine.proofs.Found.{match-empty, match-own}
 use Rattle.machine.proofs.Spans.{in-span}
 use Rattle.machine.proofs.Tags.{entry-low}
 use Rattle.machine.specs.Entry.{hasAsids, spanOf}
 use Rattle.machine.specs.Span.{inSpan}
-use Rattle.machine.specs.Table.{holdsAddress, matches}
+use Rattle.machine.specs.Table.{sameCompany, holdsAddress, translates, matches}
 use Rattle.machine.specs.Tag.{layout, companyAt, entryAt, isEntry}
-use Rattle.machine.specs.declared.entry.Entry.{Entry}
-use Rattle.tags.proofs.Parts.{entry-legal, no-span}
+use Rattle.machine.specs.declared.entry.Company.{Company}
+use Rattle.tags.proofs.Parts.{entry-legal}
 
 -- a slot reads as an entry that holds the address
 abbrev pub holds : ℕ → ℕ → ℕ → ℕ → ℕ → Bool
@@ -31,6 +32,20 @@ match-key key own asid address base tag out hk hl e = go (isEntry base tag) refl
     go : (b : Bool) → isEntry base tag ≡ b → (b && holdsAddress own asid address (entryAt base tag)) ≡ matches (companyAt key) own asid address base tag out
     go true h = sym (match-own key own asid address base tag out hk hl e h)
     go false h = sym (match-empty (companyAt key) own asid address base tag out h)
+
+-- only a leaf matches
+pub match-leaf : (c : Company) (own asid address base tag out : ℕ) → (tag / 2 ^ 49 % 2 ≡ 1 → ⊥) → matches c own asid address base tag out ≡ false
+unfolding matches translates holdsAddress entryAt
+match-leaf c own asid address base tag out d =
+    not-so (matches c own asid address base tag out)
+    (λ (h : matches c own asid address base tag out ≡ true).
+    let e = entryAt base tag in
+    let p = eqb (e .processor) own in
+    let i = inSpan base (spanOf e) address in
+    let a = eqb (e .asid) asid || e .global || not (hasAsids (e .company)) in
+    let l = bitOf tag 49 in
+    let t = and-1 (isEntry base tag) (sameCompany (e .company) c && (l && p && i && a)) h in
+    d (eqb-true (tag / 2 ^ 49 % 2) 1 (and-0 l p (and-0 (l && p) i (and-0 (l && p && i) a (and-1 (sameCompany (e .company) c) (l && p && i && a) t))))))
 
 pub hold-empty : (own asid address base tag : ℕ) → isEntry base tag ≡ false → holds own asid address base tag ≡ false
 hold-empty own asid address base tag h = ap (λ (b : Bool). b && holdsAddress own asid address (entryAt base tag)) h

@@ -64,21 +64,22 @@ fn stage1_of(state: State, regime: Regime) -> Company
     }
 }
 
-// The lowest slot that matches, or the number of slots. The key is the part of a tag that says whose a slot is: one compare turns other
-// companies' slots away.
+// The lowest slot that matches, or the number of slots. Only a leaf translates, so an empty slot, all zeros, is turned away by one bit. The
+// key is the part of a tag that says whose a slot is: one compare turns other companies' slots away.
 fn first_match(table: &[u64], key: u64, own: u8, asid: u16, address: u64) -> usize
     requires { ⌜ (length (now table) % 3 ≡ 0) × (key % 2 ^ 4 ≡ layout) × (key < 2 ^ 26) ⌝ }
     ensures { λ r. ⌜ r ≡ first (matches (companyAt key) own asid address) (now (table .entry)) ⌝ }
 {
-    let mut i = 0;
+    let n = table.len() / 3;
     let mut k = 0;
-    while i < table.len() {
-        if table[i + 1] % 0x4000000 == key {
-            if is_match(own, asid, address, table[i], table[i + 1]) {
-                return k;
+    while k < n {
+        if table[3 * k + 1] / 0x2000000000000 % 2 == 1 {
+            if table[3 * k + 1] % 0x4000000 == key {
+                if is_match(own, asid, address, table[3 * k], table[3 * k + 1]) {
+                    return k;
+                }
             }
         }
-        i += 3;
         k += 1;
     }
     k

@@ -1,46 +1,68 @@
 -- `tables::lookup::first_match` meets its contract.
-use Prim.Native.Nat.{_+_, _-_}
+use Prim.Native.Nat.{_+_, _*_, _-_}
 use mathlib.Core.Logic.{⊎-elim}
 use mathlib.Core.Path.{sym, _∙_}
-use lib.ListN.{length, getD}
+use lib.ListN.{getD}
 use borrow.Author.Needs.{needs}
-use Rattle.laws.proofs.Slots.{Seeking, seek-start, seek-on, seek-here, seek-end}
+use Rattle.laws.proofs.Slots.{Seeking, seek-start}
 use Rattle.machine.proofs.Found.{match-other}
 use Rattle.machine.specs.Table.{matches}
 use Rattle.machine.specs.Tag.{companyAt}
-use Rattle.tables.proofs.Elsewhere.{match-key}
+use Rattle.tables.proofs.BySlot.{slot-on, slot-here, slot-end}
+use Rattle.tables.proofs.Elsewhere.{match-key, match-leaf}
 use Rattle.tables.proofs.lookup.first_match.Statement.{statement}
 use Rattle.tables.proofs.lookup.first_match.Tie as tie
 
 abbrev Inv-loop : tie.InvT-loop
-Inv-loop table key own asid address i₀ k₀ i k = Seeking (matches (companyAt key) own asid address) table i k
+Inv-loop table key own asid address n k₀ k = Seeking (matches (companyAt key) own asid address) table (3 * k) k
 
 abbrev μ-loop : tie.MeasureT-loop
-μ-loop table key own asid address i₀ k₀ i k = length table - i
+μ-loop table key own asid address n k₀ k = n - k
 
 loop-holds : tie.Need-loop-holds Inv-loop μ-loop
 loop-holds c = seek-start (matches (companyAt (c .before .args .key)) (c .before .args .own) (c .before .args .asid) (c .before .args .address)) (c .before .args .table .now) (c .before .pre .0)
 
+mul-if1 : tie.Need-mul-if1 Inv-loop μ-loop
+mul-if1 c = search needs
+
 add-if1 : tie.Need-add-if1 Inv-loop μ-loop
 add-if1 c = search needs
 
-mul-if1 : tie.Need-mul-if1 Inv-loop μ-loop
-mul-if1 c = search needs
+mul-if1-2 : tie.Need-mul-if1-2 Inv-loop μ-loop
+mul-if1-2 c = search needs
 
 shared-slice-read-if1 : tie.Need-shared-slice-read-if1 Inv-loop μ-loop
 shared-slice-read-if1 c = search needs
 
+mul-if2 : tie.Need-mul-if2 Inv-loop μ-loop
+mul-if2 c = search needs
+
+add-if2 : tie.Need-add-if2 Inv-loop μ-loop
+add-if2 c = search needs
+
+mul-if2-2 : tie.Need-mul-if2-2 Inv-loop μ-loop
+mul-if2-2 c = search needs
+
+shared-slice-read-if2 : tie.Need-shared-slice-read-if2 Inv-loop μ-loop
+shared-slice-read-if2 c = search needs
+
 mul-is-match : tie.Need-mul-is-match Inv-loop μ-loop
 mul-is-match c = search needs
+
+mul-is-match-2 : tie.Need-mul-is-match-2 Inv-loop μ-loop
+mul-is-match-2 c = search needs
 
 shared-slice-read-is-match : tie.Need-shared-slice-read-is-match Inv-loop μ-loop
 shared-slice-read-is-match c = search needs
 
+mul-is-match-3 : tie.Need-mul-is-match-3 Inv-loop μ-loop
+mul-is-match-3 c = search needs
+
 add-is-match : tie.Need-add-is-match Inv-loop μ-loop
 add-is-match c = search needs
 
-mul-is-match-2 : tie.Need-mul-is-match-2 Inv-loop μ-loop
-mul-is-match-2 c = search needs
+mul-is-match-4 : tie.Need-mul-is-match-4 Inv-loop μ-loop
+mul-is-match-4 c = search needs
 
 shared-slice-read-is-match-2 : tie.Need-shared-slice-read-is-match-2 Inv-loop μ-loop
 shared-slice-read-is-match-2 c = search needs
@@ -49,17 +71,13 @@ is-match-requires : tie.Need-is-match-requires Inv-loop μ-loop
 is-match-requires c κs = search needs
 
 returns : tie.Need-returns Inv-loop μ-loop
-unfolding matches
 returns c =
-    let a = c .before .before .before .before .before .before .before .before .before .args in
-    let p = c .before .before .before .before .before .before .before .before .before .pre in
-    let l = c .before .before .before .before .before .before .before .loop in
+    let a = c .before .before .before .before .before .before .before .before .before .before .before .args in
+    let p = c .before .before .before .before .before .before .before .before .before .before .before .pre in
+    let l = c .before .before .before .before .before .before .before .before .before .loop in
     let t = a .table .now in
-    let key = match-key (a .key) (a .own) (a .asid) (a .address) (getD t (l .i) 0) (getD t (l .i + 1) 0) 0 (p .1) (p .2) (c .before .before .before .before .if1 .taken) in
-    seek-here (matches (companyAt (a .key)) (a .own) (a .asid) (a .address)) t (l .i) (l .k) (c .before .before .before .before .before .before .loop-test .taken) (l .inv) (sym key ∙ sym (c .before .is-match .ensures) ∙ c .if2 .taken)
-
-add-i : tie.Need-add-i Inv-loop μ-loop
-add-i c = search needs
+    let key = match-key (a .key) (a .own) (a .asid) (a .address) (getD t (3 * l .k) 0) (getD t (3 * l .k + 1) 0) (getD t (3 * l .k + 2) 0) (p .1) (p .2) (c .before .before .before .before .if2 .taken) in
+    slot-here (matches (companyAt (a .key)) (a .own) (a .asid) (a .address)) t (l .k) (c .before .before .before .before .before .before .before .before .loop-test .taken) (l .inv) (sym key ∙ sym (c .before .is-match .ensures) ∙ c .if3 .taken)
 
 add-k : tie.Need-add-k Inv-loop μ-loop
 add-k c = search needs
@@ -68,25 +86,26 @@ loop-less : tie.Need-loop-less Inv-loop μ-loop
 loop-less c = search needs
 
 loop-again : tie.Need-loop-again Inv-loop μ-loop
-unfolding matches
 loop-again c =
     let a = c .before .before .before .before .before .args in
     let p = c .before .before .before .before .before .pre in
     let l = c .before .before .before .loop in
     let t = a .table .now in
-    let base = getD t (l .i) 0 in
-    let tag = getD t (l .i + 1) 0 in
-    ⊎-elim
-    (λ y. seek-on (matches (companyAt (a .key)) (a .own) (a .asid) (a .address)) t (l .i) (l .k) (c .before .before .loop-test .taken) (l .inv)
-    (sym (match-key (a .key) (a .own) (a .asid) (a .address) base tag 0 (p .1) (p .2) (y .0 .taken)) ∙ sym (y .3 .ensures) ∙ y .4 .left))
-    (λ y. seek-on (matches (companyAt (a .key)) (a .own) (a .asid) (a .address)) t (l .i) (l .k) (c .before .before .loop-test .taken) (l .inv)
-    (match-other (a .key) (a .own) (a .asid) (a .address) base tag 0 (p .1) (p .2) (y .left)))
-    (c .if1 .came)
+    let base = getD t (3 * l .k) 0 in
+    let tag = getD t (3 * l .k + 1) 0 in
+    let out = getD t (3 * l .k + 2) 0 in
+    slot-on (matches (companyAt (a .key)) (a .own) (a .asid) (a .address)) t (l .k) (c .before .before .loop-test .taken) (l .inv)
+    (⊎-elim
+    (λ y. sym (match-key (a .key) (a .own) (a .asid) (a .address) base tag out (p .1) (p .2) (y .2 .taken)) ∙ sym (y .5 .ensures) ∙ y .6 .left)
+    (⊎-elim
+    (λ y. match-other (a .key) (a .own) (a .asid) (a .address) base tag out (p .1) (p .2) (y .2 .left))
+    (λ y. match-leaf (companyAt (a .key)) (a .own) (a .asid) (a .address) base tag out (y .left)))
+    (c .if1 .came))
 
 returns-2 : tie.Need-returns-2 Inv-loop μ-loop
 returns-2 c =
     let a = c .before .before .before .args in
-    seek-end (matches (companyAt (a .key)) (a .own) (a .asid) (a .address)) (a .table .now) (c .before .loop .i) (c .before .loop .k) (c .loop-test .left) (c .before .loop .inv)
+    slot-end (matches (companyAt (a .key)) (a .own) (a .asid) (a .address)) (a .table .now) (c .before .loop .k) (c .loop-test .left) (c .before .loop .inv)
 
 pub first-match-spec : {M : Type 1} → statement M
 first-match-spec =
@@ -95,17 +114,23 @@ first-match-spec =
     Inv-loop
     μ-loop
     loop-holds
-    add-if1
     mul-if1
+    add-if1
+    mul-if1-2
     shared-slice-read-if1
+    mul-if2
+    add-if2
+    mul-if2-2
+    shared-slice-read-if2
     mul-is-match
-    shared-slice-read-is-match
-    add-is-match
     mul-is-match-2
+    shared-slice-read-is-match
+    mul-is-match-3
+    add-is-match
+    mul-is-match-4
     shared-slice-read-is-match-2
     is-match-requires
     returns
-    add-i
     add-k
     loop-less
     loop-again
