@@ -4,18 +4,18 @@ use mathlib.Core.Bool.{true, false}
 use mathlib.Core.List.{List}
 use mathlib.Core.Path.{_≡_, refl, sym, ap₂, subst, _∙_}
 use native.Mathlib.Decide.{ℕ-discrete}
-use native.Mathlib.Nat.{div-lt-iff-lt-mul}
+use native.Mathlib.Nat.{div-lt-iff-lt-mul, le-div-iff-mul-le}
 use native.Mathlib.Omega.{arith}
-use lib.Dec.{eqb}
+use lib.Dec.{eqb, leb}
 use lib.Pow.{pow-add, pow-mono, pow-pos}
-use borrow.Author.Tests.{eqb-true}
+use borrow.Author.Tests.{eqb-true, leb-true}
 use Rattle.laws.proofs.Any.{few}
 use Rattle.laws.proofs.Truth.{and-1, not-so, clash}
 use Rattle.machine.proofs.Going.{going}
-use Rattle.machine.proofs.Spans.{span-most, number-meets}
+use Rattle.machine.proofs.Spans.{span-most, meets-number, number-meets}
 use Rattle.machine.proofs.Tags.{legal}
 use Rattle.machine.specs.Entry.{hasAsids, spanOf, isLegal}
-use Rattle.machine.specs.Goes.{goes}
+use Rattle.machine.specs.Goes.{isMet, goes}
 use Rattle.machine.specs.Judge.{holdsAsid}
 use Rattle.machine.specs.Span.{meetsRange}
 use Rattle.machine.specs.declared.entry.Entry.{Entry}
@@ -32,13 +32,25 @@ other-granule w e d = not-so (goes w e) (λ (h : goes w e ≡ true). d (eqb-true
 pub span-low : (e : Entry) (k : ℕ) → isLegal e ≡ true → k ≡ spanOf e → k < 64
 span-low e k h s = omega (arith, s, span-most (e .wide) (e .granule) (e .level) (legal e h .span))
 
--- an entry whose span lies apart from the range of a work stays: q is the number of the span
-pub span-apart : (w : Work) (e : Entry) (k q : ℕ) → k ≡ spanOf e → e .base ≡ q * 2 ^ k → ((w .first / 2 ^ k ≤ q) × (q ≤ w .last / 2 ^ k) → ⊥) → goes w e ≡ false
-span-apart w e k q s b d =
+-- an entry that starts after the range of a work stays
+pub span-above : (w : Work) (e : Entry) → w .last < e .base → goes w e ≡ false
+span-above w e n =
+    not-so (goes w e)
+    (λ (h : goes w e ≡ true). omega (arith, n, leb-true (e .base) (w .last) (and-1 (leb (w .first) _) (leb (e .base) (w .last)) (going w e h .met))))
+
+-- and so does one whose span ends before it: q is the number of the span
+pub span-below : (w : Work) (e : Entry) (k q : ℕ) → k ≡ spanOf e → e .base ≡ q * 2 ^ k → q < w .first / 2 ^ k → goes w e ≡ false
+span-below w e k q s b n =
     not-so (goes w e)
     (λ (h : goes w e ≡ true).
     let m : meetsRange (q * 2 ^ k) k (w .first) (w .last) ≡ true = ap₂ (λ (x j : ℕ). meetsRange x j (w .first) (w .last)) (sym b) s ∙ going w e h .met in
-    d (number-meets k q (w .first) (w .last) m))
+    omega (arith, n, number-meets k q (w .first) (w .last) m .0))
+
+-- one that does neither is met
+pub span-met : (w : Work) (e : Entry) (k q : ℕ) → k ≡ spanOf e → e .base ≡ q * 2 ^ k → w .first / 2 ^ k ≤ q → e .base ≤ w .last → isMet w e ≡ true
+span-met w e k q s b from to =
+    let most : q ≤ w .last / 2 ^ k = le-div-iff-mul-le (pow-pos k) .1 (omega (arith, b, to)) in
+    ap₂ (λ (x j : ℕ). meetsRange x j (w .first) (w .last)) b (sym s) ∙ meets-number k q (w .first) (w .last) from most
 
 -- the ASIDs below a are used
 abbrev pub Used : List Work → ℕ → ℕ → Type 0

@@ -13,10 +13,10 @@ pub fn is_taken(work: Work, entry: Entry, q: u64, k: u64) -> bool
     requires { ⌜ (isLegal entry ≡ true) × (isOwned work entry ≡ true) × (k ≡ spanOf entry) × (entry .base ≡ q * 2 ^ k) ⌝ }
     ensures { λ r. ⌜ r ≡ goes work entry ⌝ }
 {
-    if q < work.first >> k {
+    if work.last < entry.base {
         return false;
     }
-    if work.last >> k < q {
+    if q < work.first >> k {
         return false;
     }
     if entry.granule as u64 != work.granule {

@@ -5,11 +5,12 @@ ghost use lib.ListN.{length};
 ghost use Rattle.laws.specs.Slots.{count, cleared};
 ghost use Rattle.machine.specs.Goes.{keyOf, drops};
 ghost use Rattle.machine.specs.Tag.{companyTag};
+ghost use Rattle.dropping.specs.Lows.{AreLows};
+use crate::lows::lows_of;
 use machine::Work;
 use tags::company_tag;
 use tags::entry_at;
 use tags::is_entry;
-use tags::span_at;
 use works::goes;
 
 // Three zeros for each slot that is dropped, and how many there are. One compare turns away the slots of other companies and granules.
@@ -19,11 +20,12 @@ pub fn drop_all(table: &mut [u64], work: Work) -> usize
     ensures { λ r. ⌜ now (table .exit) ≡ cleared (drops work) (now (table .entry)) ⌝ }
 {
     let key = key_of(work);
+    let lows = lows_of(work);
     let mut i = 0;
     let mut n = 0;
     while i < table.len() {
         if table[i + 1] % 0x10000000 == key {
-            if is_dropped(work, table[i], table[i + 1]) {
+            if is_dropped(work, &lows, table[i], table[i + 1]) {
                 table[i] = 0;
                 table[i + 1] = 0;
                 table[i + 2] = 0;
@@ -45,18 +47,15 @@ fn key_of(work: Work) -> u64
 }
 
 // A slot with the key is turned away by its range before the rest of it is looked at.
-fn is_dropped(work: Work, base: u64, tag: u64) -> bool
-    requires { ⌜ (tag % 2 ^ 28 ≡ keyOf work) × (companyTag (work .company) < 2 ^ 26) × (work .company .vmid < 2 ^ 16) × (work .granule ≤ 3) ⌝ }
+fn is_dropped(work: Work, lows: &[u64; 16], base: u64, tag: u64) -> bool
+    requires { ⌜ (tag % 2 ^ 28 ≡ keyOf work) × (companyTag (work .company) < 2 ^ 26) × (work .company .vmid < 2 ^ 16) × (work .granule ≤ 3) × AreLows work (now lows) ⌝ }
     ensures { λ r. ⌜ r ≡ drops work base tag 0 ⌝ }
 {
     if work.last < base {
         return false;
     }
-    let k = span_at(tag);
-    if 54 < k {
-        return false;
-    }
-    if base >> k < work.first >> k {
+    let x = (tag / 0x200000000000 % 16) as usize;
+    if base < lows[x] {
         return false;
     }
     if !is_entry(base, tag) {

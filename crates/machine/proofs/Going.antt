@@ -102,18 +102,14 @@ drop-own w base tag reads e low v g =
     let c : tag % 2 ^ 26 ≡ companyTag (w .company) = omega (arith, e, low, g) in
     (company-at (w .company) tag v (entry-layout base tag reads) ∙ eq-eqb (tag % 2 ^ 26) (companyTag (w .company)) c, eq-eqb (bits 27 26 tag) (w .granule) tg)
 
--- what is left to test then
-pub goes-rest : (w : Work) (e : Entry) → isOwned w e ≡ true → isGranuleOf w e ≡ true →
-    goes w e ≡ (isReached w e && isMet w e && isHinted w e && hasWidth w e && isLeafOf w e && isAsidOf w e && isXsOf w e)
+-- what is left to test then, of an entry that the range meets
+pub goes-rest : (w : Work) (e : Entry) → isOwned w e ≡ true → isGranuleOf w e ≡ true → isMet w e ≡ true →
+    goes w e ≡ (isReached w e && isHinted w e && hasWidth w e && isLeafOf w e && isAsidOf w e && isXsOf w e)
 unfolding goes
-goes-rest w e h g = go (isReached w e) (isOwned w e) h (isGranuleOf w e) g
+goes-rest w e h g m = go (isReached w e) (isOwned w e) (isGranuleOf w e) (isMet w e) h g m
   where
-    go : (a b : Bool) → b ≡ true → (d : Bool) → d ≡ true →
-        (a && b && d && isMet w e && isHinted w e && hasWidth w e && isLeafOf w e && isAsidOf w e && isXsOf w e)
-        ≡ (a && isMet w e && isHinted w e && hasWidth w e && isLeafOf w e && isAsidOf w e && isXsOf w e)
-    go true true p true q = refl
-    go true true p false q = absurd (let z : _≡_ {A = ℕ} 0 1 = cc in omega arith)
-    go true false p d q = absurd (let z : _≡_ {A = ℕ} 0 1 = cc in omega arith)
-    go false true p true q = refl
-    go false true p false q = refl
-    go false false p d q = refl
+    go : (a b d f : Bool) → b ≡ true → d ≡ true → f ≡ true →
+        (a && b && d && f && isHinted w e && hasWidth w e && isLeafOf w e && isAsidOf w e && isXsOf w e)
+        ≡ (a && isHinted w e && hasWidth w e && isLeafOf w e && isAsidOf w e && isXsOf w e)
+    go true b d f p q r = simp (p, q, r)
+    go false b d f p q r = refl

@@ -1,4 +1,4 @@
-// Levels, their spans, and what a span meets.
+// Levels and their spans.
 mod exponent;
 mod level;
 mod span;
@@ -11,5 +11,4 @@ pub use level::is_level;
 pub use span::bit_of;
 pub use span::in_span;
 pub use span::is_multiple;
-pub use span::meets;
 pub use span::size;

@@ -3,7 +3,7 @@ ghost use Prim.Native.Nat.{_%_, _^_, _≤_};
 ghost use mathlib.Core.Path.{_≡_};
 ghost use lib.Dec.{eqb};
 ghost use Rattle.laws.specs.Mask.{bitOf};
-ghost use Rattle.machine.specs.Span.{inSpan, meetsRange};
+ghost use Rattle.machine.specs.Span.{inSpan};
 
 pub fn size(k: u64) -> u64
     requires { ⌜ k ≤ 63 ⌝ }
@@ -32,12 +32,4 @@ pub fn in_span(base: u64, k: u64, address: u64) -> bool
     ensures { λ r. ⌜ r ≡ inSpan base k address ⌝ }
 {
     (base <= address) & (address <= base + (size(k) - 1))
-}
-
-pub fn meets(base: u64, k: u64, first: u64, last: u64) -> bool
-    requires { ⌜ (k ≤ 63) × (base % 2 ^ k ≡ 0) ⌝ }
-    ensures { λ r. ⌜ r ≡ meetsRange base k first last ⌝ }
-{
-    let end = base + (size(k) - 1);
-    (first <= end) & (base <= last)
 }

@@ -4,25 +4,15 @@ ghost use mathlib.Core.Bool.{true};
 ghost use mathlib.Core.Path.{_≡_};
 ghost use Rattle.machine.specs.Entry.{isLegal};
 ghost use Rattle.machine.specs.Goes.{isReached, isOwned, isGranuleOf, isMet, isWidthOf, isAtHint, isAsidOf, goes};
-use entries::span_of;
 use machine::Entry;
 use machine::Work;
 use spans::bit_of;
-use spans::meets;
 
 fn is_reached(work: Work, entry: Entry) -> bool
     requires { ⌜ entry .processor ≤ 7 ⌝ }
     ensures { λ r. ⌜ r ≡ isReached work entry ⌝ }
 {
     bit_of(work.reached, entry.processor as u64)
-}
-
-fn is_met(work: Work, entry: Entry) -> bool
-    requires { ⌜ isLegal entry ≡ true ⌝ }
-    ensures { λ r. ⌜ r ≡ isMet work entry ⌝ }
-{
-    let k = span_of(entry);
-    meets(entry.base, k, work.first, work.last)
 }
 
 fn is_width_of(work: Work, entry: Entry) -> bool
@@ -47,18 +37,17 @@ fn is_asid_of(work: Work, entry: Entry) -> bool
     !work.one | (entry.asid as u64 == work.asid) | (entry.leaf & entry.global)
 }
 
-// Whether an entry goes that is of the operation's company and granule: a caller has compared these in one number.
+// Whether an entry goes that is of the operation's company and granule and that its range meets: a caller has looked at these first, since they
+// turn most entries away.
 pub fn goes(work: Work, entry: Entry) -> bool
-    requires { ⌜ (isLegal entry ≡ true) × (isOwned work entry ≡ true) × (isGranuleOf work entry ≡ true) ⌝ }
+    requires { ⌜ (isLegal entry ≡ true) × (isOwned work entry ≡ true) × (isGranuleOf work entry ≡ true) × (isMet work entry ≡ true) ⌝ }
     ensures { λ r. ⌜ r ≡ goes work entry ⌝ }
 {
     let reached = is_reached(work, entry);
-    let met = is_met(work, entry);
     let width = is_width_of(work, entry);
     let at_hint = is_at_hint(work, entry);
     let agrees = is_asid_of(work, entry);
     reached
-        & met
         & (!work.hinted | (width & at_hint))
         & (width | (!work.hinted & work.d128))
         & (!work.leaves | entry.leaf)

@@ -12,16 +12,19 @@ use Rattle.dropping.proofs.slots.drop_all.Statement.{statement}
 use Rattle.dropping.proofs.slots.drop_all.Tie as tie
 
 abbrev Inv-loop : tie.InvT-loop
-Inv-loop table₀ work key i₀ n₀ table i n = Clearing (drops work) table₀ table i n
+Inv-loop table₀ work key lows i₀ n₀ table i n = Clearing (drops work) table₀ table i n
 
 abbrev μ-loop : tie.MeasureT-loop
-μ-loop table₀ work key i₀ n₀ table i n = length table - i
+μ-loop table₀ work key lows i₀ n₀ table i n = length table - i
 
 key-of-requires : tie.Need-key-of-requires Inv-loop μ-loop
 key-of-requires c κs = search needs
 
+lows-of-requires : tie.Need-lows-of-requires Inv-loop μ-loop
+lows-of-requires c κs = search needs
+
 loop-holds : tie.Need-loop-holds Inv-loop μ-loop
-loop-holds c = clear-start (drops (c .before .before .args .work)) (c .before .before .args .table .now) (c .before .before .pre .0)
+loop-holds c = let a = c .before .before .before .args in clear-start (drops (a .work)) (a .table .now) (c .before .before .before .pre .0)
 
 add-if1 : tie.Need-add-if1 Inv-loop μ-loop
 add-if1 c = search needs
@@ -83,15 +86,16 @@ add-i c = search needs
 loop-again : tie.Need-loop-again Inv-loop μ-loop
 unfolding drops
 loop-again c =
-    let w = c .before .before .before .before .before .before .args .work in
-    let t = c .before .before .before .before .before .before .args .table .now in
+    let a = c .before .before .before .before .before .before .before .args in
+    let w = a .work in
+    let t = a .table .now in
     let l = c .before .before .before .loop in
-    let k = c .before .before .before .before .key-of .ensures in
+    let k = c .before .before .before .before .before .key-of .ensures in
     let on = c .before .before .loop-test .taken in
     ⊎-elim
-    (λ y. rw (y .5, y .6) (clear-drop (drops w) t (l .table) (l .i) (l .n) on (l .inv) (sym (y .3 .ensures) ∙ y .4 .taken)))
+    (λ y. rw (y .6, y .7) (clear-drop (drops w) t (l .table) (l .i) (l .n) on (l .inv) (sym (y .4 .ensures) ∙ y .5 .taken)))
     (⊎-elim
-    (λ y. rw (y .5, y .6) (clear-keep (drops w) t (l .table) (l .i) (l .n) on (l .inv) (sym (y .3 .ensures) ∙ y .4 .left)))
+    (λ y. rw (y .6, y .7) (clear-keep (drops w) t (l .table) (l .i) (l .n) on (l .inv) (sym (y .4 .ensures) ∙ y .5 .left)))
     (λ y. rw (y .1, y .2) (clear-keep (drops w) t (l .table) (l .i) (l .n) on (l .inv) (drop-other w (getD (l .table) (l .i) 0) (getD (l .table) (l .i + 1) 0) 0 (λ e. y .0 .left (e ∙ sym (k .0))) (k .2)))))
     (c .if1 .came)
 
@@ -106,7 +110,7 @@ same-length c = search needs
 
 returns : tie.Need-returns Inv-loop μ-loop
 returns c =
-    let a = c .before .before .before .before .args in
+    let a = c .before .before .before .before .before .args in
     let e = clear-end (drops (a .work)) (a .table .now) (c .before .loop .table) (c .before .loop .i) (c .before .loop .n) (c .loop-test .left) (c .before .loop .inv) in
     (e .1, e .0)
 
@@ -117,6 +121,7 @@ drop-all-spec =
     Inv-loop
     μ-loop
     key-of-requires
+    lows-of-requires
     loop-holds
     add-if1
     mul-if1

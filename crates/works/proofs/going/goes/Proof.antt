@@ -8,9 +8,6 @@ use Rattle.works.proofs.going.goes.Tie as tie
 is-reached-requires : tie.Need-is-reached-requires
 is-reached-requires c κs = legal (c .args .entry) (c .pre .0) .processor
 
-is-met-requires : tie.Need-is-met-requires
-is-met-requires c κs = search needs
-
 is-width-of-requires : tie.Need-is-width-of-requires
 is-width-of-requires c κs = search needs
 
@@ -22,15 +19,15 @@ is-asid-of-requires c κs = search needs
 
 returns : tie.Need-returns
 returns c =
-    let a = c .before .before .before .before .before .before .before .before .before .before .before .before .args in
-    rw (goes-rest (a .work) (a .entry) (c .before .before .before .before .before .before .before .before .before .before .before .before .pre .1) (c .before .before .before .before .before .before .before .before .before .before .before .before .pre .2)) (simp (c .before .before .before .before .before .before .before .is-asid-of .ensures, c .before .before .before .before .before .before .before .before .is-at-hint .ensures, c .before .before .before .before .before .before .before .before .before .is-width-of .ensures, c .before .before .before .before .before .before .before .before .before .before .is-met .ensures, c .before .before .before .before .before .before .before .before .before .before .before .is-reached .ensures))
+    let a = c .before .before .before .before .before .before .before .before .before .before .before .args in
+    let p = c .before .before .before .before .before .before .before .before .before .before .before .pre in
+    rw (goes-rest (a .work) (a .entry) (p .1) (p .2) (p .3)) (simp (c .before .before .before .before .before .before .before .is-asid-of .ensures, c .before .before .before .before .before .before .before .before .is-at-hint .ensures, c .before .before .before .before .before .before .before .before .before .is-width-of .ensures, c .before .before .before .before .before .before .before .before .before .before .is-reached .ensures))
 
 pub goes-spec : {M : Type 1} → statement M
 goes-spec =
     tie.close
     (tie.spec
     is-reached-requires
-    is-met-requires
     is-width-of-requires
     is-at-hint-requires
     is-asid-of-requires
