@@ -2,7 +2,8 @@
 ghost use Prim.Native.Nat.{_%_};
 ghost use mathlib.Core.Path.{_≡_};
 ghost use lib.ListN.{length};
-ghost use Rattle.machine.specs.Execute.{executedBy, tableBy, resolvedOf, executedOf, executeTable};
+ghost use Rattle.machine.specs.Execute.{executedBy, tableBy, executedOf, executeTable};
+ghost use Rattle.execution.specs.Granule.{HasGranule};
 use dropping::drop_all;
 use machine::Executed;
 use machine::Resolved;
@@ -21,16 +22,17 @@ pub fn execute(table: &mut [u64], state: State, word: u64, xt: u64, xt2: u64) ->
     if is_bad(state) {
         return Executed::BadState;
     }
-    carry_out(table, state, word, xt, xt2)
+    let resolved = resolve(state, word, xt, xt2);
+    carry_out(table, resolved)
 }
 
-// What execute does after its checks of shape and state.
-pub fn carry_out(table: &mut [u64], state: State, word: u64, xt: u64, xt2: u64) -> Executed
-    requires { ⌜ length (now table) % 3 ≡ 0 ⌝ }
-    ensures { λ r. ⌜ r ≡ executedBy (resolvedOf state word xt xt2) (now (table .entry)) ⌝ }
-    ensures { λ r. ⌜ now (table .exit) ≡ tableBy (resolvedOf state word xt xt2) (now (table .entry)) ⌝ }
+// What execute does after its checks of shape and state, with what the operation comes to.
+pub fn carry_out(table: &mut [u64], resolved: Resolved) -> Executed
+    requires { ⌜ (length (now table) % 3 ≡ 0) × HasGranule resolved ⌝ }
+    ensures { λ r. ⌜ r ≡ executedBy resolved (now (table .entry)) ⌝ }
+    ensures { λ r. ⌜ now (table .exit) ≡ tableBy resolved (now (table .entry)) ⌝ }
 {
-    match resolve(state, word, xt, xt2) {
+    match resolved {
         Resolved::Works(work) => {
             let n = drop_all(table, work);
             Executed::Dropped(n)

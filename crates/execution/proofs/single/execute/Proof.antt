@@ -1,9 +1,11 @@
 -- `execution::single::execute` meets its contract.
-use mathlib.Core.Path.{sym, _∙_}
+use mathlib.Core.Path.{sym, ap, _∙_}
 use borrow.Author.Needs.{needs}
 use borrow.Author.Tests.{not-true, not-false}
 use Rattle.machine.proofs.Executing.{execute-13, execute-2, execute-good}
 use Rattle.machine.proofs.Inserting.{table-shape}
+use Rattle.machine.proofs.Works.{fit}
+use Rattle.machine.specs.Execute.{executedBy, tableBy}
 use Rattle.execution.proofs.single.execute.Statement.{statement}
 use Rattle.execution.proofs.single.execute.Tie as tie
 
@@ -25,17 +27,26 @@ returns-2 c =
     let r = execute-2 (a .state) (a .word) (a .xt) (a .xt2) (a .table .now) (sym (c .before .before .before .is-table .ensures) ∙ not-false _ (c .before .before .if1 .left)) (sym (c .before .is-bad .ensures) ∙ c .if2 .taken) in
     (sym (r .0), sym (r .1))
 
+resolve-requires : tie.Need-resolve-requires
+resolve-requires c κs = search needs
+
 carry-out-requires : tie.Need-carry-out-requires
-carry-out-requires c κs = table-shape (c .before .before .before .before .before .before .args .table .now) (sym (c .before .before .before .before .is-table .ensures) ∙ not-false _ (c .before .before .before .if1 .left)) .0
+carry-out-requires c κs =
+    let a = c .before .before .before .before .before .before .before .args in
+    let r = c .before .resolve .ensures in
+    (table-shape (a .table .now) (sym (c .before .before .before .before .before .is-table .ensures) ∙ not-false _ (c .before .before .before .before .if1 .left)) .0, λ w e. fit (a .state) (a .word) (a .xt) (a .xt2) w (sym r ∙ e) .granule-most)
 
 same-length : tie.Need-same-length
 same-length c = search needs
 
 returns-3 : tie.Need-returns-3
 returns-3 c =
-    let a = c .before .before .before .before .before .before .before .before .before .args in
-    let r = execute-good (a .state) (a .word) (a .xt) (a .xt2) (a .table .now) (sym (c .before .before .before .before .before .before .before .is-table .ensures) ∙ not-false _ (c .before .before .before .before .before .before .if1 .left)) (sym (c .before .before .before .before .before .is-bad .ensures) ∙ c .before .before .before .before .if2 .left) in
-    (c .before .before .carry-out .ensures .0 ∙ sym (r .0), c .before .before .carry-out .ensures .1 ∙ sym (r .1))
+    let a = c .before .before .before .before .before .before .before .before .before .before .args in
+    let l = a .table .now in
+    let done = c .before .before .carry-out .ensures in
+    let e = c .before .before .before .before .resolve .ensures in
+    let r = execute-good (a .state) (a .word) (a .xt) (a .xt2) l (sym (c .before .before .before .before .before .before .before .before .is-table .ensures) ∙ not-false _ (c .before .before .before .before .before .before .before .if1 .left)) (sym (c .before .before .before .before .before .before .is-bad .ensures) ∙ c .before .before .before .before .before .if2 .left) in
+    (done .0 ∙ ap (λ x. executedBy x l) e ∙ sym (r .0), done .1 ∙ ap (λ x. tableBy x l) e ∙ sym (r .1))
 
 pub execute-spec : {M : Type 1} → statement M
 execute-spec =
@@ -45,6 +56,7 @@ execute-spec =
     returns
     is-bad-requires
     returns-2
+    resolve-requires
     carry-out-requires
     same-length
     returns-3)

@@ -1,15 +1,21 @@
 -- `running::running::run_step` meets its contract.
-use mathlib.Core.Path.{ap, _∙_}
+use mathlib.Core.Path.{sym, ap, _∙_}
 use native.Mathlib.Omega.{arith}
 use borrow.Author.Needs.{needs}
 use Rattle.machine.proofs.Executing.{dropped-most}
+use Rattle.machine.proofs.Works.{fit}
 use Rattle.machine.specs.Answer.{executedDropped}
-use Rattle.machine.specs.Execute.{resolvedOf}
+use Rattle.machine.specs.Execute.{executedBy, tableBy, resolvedOf}
 use Rattle.running.proofs.running.run_step.Statement.{statement}
 use Rattle.running.proofs.running.run_step.Tie as tie
 
+resolve-requires : tie.Need-resolve-requires
+resolve-requires c κs = search needs
+
 carry-out-requires : tie.Need-carry-out-requires
-carry-out-requires c κs = search needs
+carry-out-requires c κs =
+    let a = c .before .before .before .args in
+    (c .before .before .before .pre, λ w e. fit (a .state) (a .word) (a .xt) (a .xt2) w (sym (c .before .resolve .ensures) ∙ e) .granule-most)
 
 dropped-requires : tie.Need-dropped-requires
 dropped-requires c κs = search needs
@@ -19,10 +25,13 @@ same-length c = search needs
 
 returns : tie.Need-returns
 returns c =
-    let a = c .before .before .before .before .before .before .args in
+    let a = c .before .before .before .before .before .before .before .args in
+    let l = a .table .now in
     let r = resolvedOf (a .state) (a .word) (a .xt) (a .xt2) in
-    let e = c .dropped .ensures ∙ ap executedDropped (c .before .before .before .carry-out .ensures .0) in
-    ((e, omega (arith, e, dropped-most r (a .table .now))), c .before .before .before .carry-out .ensures .1)
+    let known = c .before .before .before .before .before .resolve .ensures in
+    let done = c .before .before .before .carry-out .ensures in
+    let e = c .dropped .ensures ∙ ap executedDropped (done .0 ∙ ap (λ x. executedBy x l) known) in
+    ((e, omega (arith, e, dropped-most r l)), done .1 ∙ ap (λ x. tableBy x l) known)
 
 pub run-step-spec : {M : Type 1} → statement M
-run-step-spec = tie.close (tie.spec carry-out-requires dropped-requires same-length returns)
+run-step-spec = tie.close (tie.spec resolve-requires carry-out-requires dropped-requires same-length returns)
