@@ -2,7 +2,9 @@
 ghost use mathlib.Core.Path.{_≡_};
 ghost use mathlib.Core.Bool.{cond, _&&_};
 ghost use Rattle.machine.specs.State.{e2hOf, tgeOf};
-ghost use Rattle.machine.specs.Access.{actsNxs, accessE1, accessNv, accessE2, accessStage2, accessE3, accessOf};
+ghost use Rattle.machine.specs.Access.{actsNxs, accessE1, accessNv, accessE2, accessStage2, accessE3, accessBy, accessOf};
+ghost use Rattle.machine.specs.Word.{familyOf};
+ghost use Rattle.access.specs.Ways.{accessIn};
 use machine::Access;
 use machine::Family;
 use machine::Operation;
@@ -16,33 +18,59 @@ use traps::is_trapped;
 use traps::trap;
 use words::family_of;
 
+// What a family's rule comes to: the scope is made once for all of them.
+pub enum Way {
+    Undefined,
+    Trapped,
+    NoEffect,
+    Acts(Regime, bool, bool),
+}
+
 pub fn decide(state: State, op: Operation) -> Access
     ensures { λ r. ⌜ r ≡ accessOf state op ⌝ }
 {
     if is_barred(state, op) {
         return Access::Undefined;
     }
-    let name = op.name;
-    let family = family_of(name);
-    match family {
-        Family::E1 => access_e1(state, op),
-        Family::E2 => access_e2(state, op),
-        Family::E3 => access_e3(state, op),
-        Family::Stage2 => access_stage2(state, op),
+    let way = way_of(state, op);
+    access_in(state, op, way)
+}
+
+fn access_in(state: State, op: Operation, way: Way) -> Access
+    ensures { λ r. ⌜ r ≡ accessIn state op way ⌝ }
+{
+    match way {
+        Way::Undefined => Access::Undefined,
+        Way::Trapped => trap(op),
+        Way::NoEffect => Access::NoEffect,
+        Way::Acts(regime, stage2, nxs) => Access::Runs(scope_of(state, op, regime, stage2, nxs)),
     }
 }
 
-fn access_e1(state: State, op: Operation) -> Access
-    ensures { λ r. ⌜ r ≡ accessE1 state op ⌝ }
+fn way_of(state: State, op: Operation) -> Way
+    ensures { λ r. ⌜ accessIn state op r ≡ accessBy (familyOf (op .name)) state op ⌝ }
+{
+    let name = op.name;
+    let family = family_of(name);
+    match family {
+        Family::E1 => way_e1(state, op),
+        Family::E2 => way_e2(state, op),
+        Family::E3 => way_e3(state, op),
+        Family::Stage2 => way_stage2(state, op),
+    }
+}
+
+fn way_e1(state: State, op: Operation) -> Way
+    ensures { λ r. ⌜ accessIn state op r ≡ accessE1 state op ⌝ }
 {
     if state.el == 1 {
         if is_trapped(state, op) {
-            trap(op)
+            Way::Trapped
         } else {
-            Access::Runs(scope_of(state, op, Regime::EL10, false, acts_nxs(state, op)))
+            Way::Acts(Regime::EL10, false, acts_nxs(state, op))
         }
     } else {
-        Access::Runs(scope_of(state, op, host_regime(state), false, op.nxs))
+        Way::Acts(host_regime(state), false, op.nxs)
     }
 }
 
@@ -64,16 +92,16 @@ fn host_regime(state: State) -> Regime
     }
 }
 
-fn access_e2(state: State, op: Operation) -> Access
-    ensures { λ r. ⌜ r ≡ accessE2 state op ⌝ }
+fn way_e2(state: State, op: Operation) -> Way
+    ensures { λ r. ⌜ accessIn state op r ≡ accessE2 state op ⌝ }
 {
     if state.el == 1 {
-        return access_nv(state, op);
+        return way_nv(state, op);
     }
     if el2_enabled(state) {
-        Access::Runs(scope_of(state, op, el2_regime(state), false, op.nxs))
+        Way::Acts(el2_regime(state), false, op.nxs)
     } else {
-        Access::Undefined
+        Way::Undefined
     }
 }
 
@@ -87,35 +115,35 @@ fn el2_regime(state: State) -> Regime
     }
 }
 
-fn access_stage2(state: State, op: Operation) -> Access
-    ensures { λ r. ⌜ r ≡ accessStage2 state op ⌝ }
+fn way_stage2(state: State, op: Operation) -> Way
+    ensures { λ r. ⌜ accessIn state op r ≡ accessStage2 state op ⌝ }
 {
     if state.el == 1 {
-        return access_nv(state, op);
+        return way_nv(state, op);
     }
     if el2_enabled(state) {
-        Access::Runs(scope_of(state, op, Regime::EL10, true, op.nxs))
+        Way::Acts(Regime::EL10, true, op.nxs)
     } else {
-        Access::NoEffect
+        Way::NoEffect
     }
 }
 
-fn access_nv(state: State, op: Operation) -> Access
-    ensures { λ r. ⌜ r ≡ accessNv state op ⌝ }
+fn way_nv(state: State, op: Operation) -> Way
+    ensures { λ r. ⌜ accessIn state op r ≡ accessNv state op ⌝ }
 {
     if el2_enabled(state) & state.hcr.nv {
-        trap(op)
+        Way::Trapped
     } else {
-        Access::Undefined
+        Way::Undefined
     }
 }
 
-fn access_e3(state: State, op: Operation) -> Access
-    ensures { λ r. ⌜ r ≡ accessE3 state op ⌝ }
+fn way_e3(state: State, op: Operation) -> Way
+    ensures { λ r. ⌜ accessIn state op r ≡ accessE3 state op ⌝ }
 {
     if state.el < 3 {
-        Access::Undefined
+        Way::Undefined
     } else {
-        Access::Runs(scope_of(state, op, Regime::EL3, false, op.nxs))
+        Way::Acts(Regime::EL3, false, op.nxs)
     }
 }
