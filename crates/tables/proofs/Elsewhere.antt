@@ -5,24 +5,38 @@ use mathlib.Core.Path.{_≡_, refl, sym, ap, _∙_}
 use native.Mathlib.Nat.{add-mul, one-mul, div-eq-of-lt-le}
 use native.Mathlib.Omega.{arith}
 use lib.Dec.{eqb}
-use borrow.Author.Tests.{eqb-true}
+use borrow.Author.Tests.{eqb-true, eqb-false}
 use Rattle.laws.proofs.Aligned.{whole}
 use Rattle.laws.proofs.Truth.{and-0, and-1, not-so}
 use Rattle.laws.specs.Bits.{bits}
 use Rattle.laws.specs.Mask.{bitOf}
-use Rattle.machine.proofs.Found.{match-empty, match-own}
+use Rattle.machine.proofs.Found.{match-empty, match-other, match-own}
 use Rattle.machine.proofs.Spans.{in-span}
 use Rattle.machine.proofs.Tags.{entry-low}
 use Rattle.machine.specs.Entry.{hasAsids, spanOf}
 use Rattle.machine.specs.Span.{inSpan}
-use Rattle.machine.specs.Table.{sameCompany, holdsAddress, translates, matches}
+use Rattle.machine.specs.Table.{holdsAddress, matches}
 use Rattle.machine.specs.Tag.{layout, companyAt, entryAt, isEntry}
-use Rattle.machine.specs.declared.entry.Company.{Company}
 use Rattle.tags.proofs.Parts.{entry-legal}
+use Rattle.tables.proofs.Masked.{masked, wanted, leaf-wanted}
 
 -- a slot reads as an entry that holds the address
 abbrev pub holds : ℕ → ℕ → ℕ → ℕ → ℕ → Bool
 holds own asid address base tag = isEntry base tag && holdsAddress own asid address (entryAt base tag)
+
+-- and only a leaf of the own processor does
+pub hold-leaf : (own asid address base tag : ℕ) → holds own asid address base tag ≡ true → (tag / 2 ^ 49 % 2 ≡ 1) × (tag / 2 ^ 51 ≡ own)
+unfolding holdsAddress entryAt
+hold-leaf own asid address base tag h =
+    let e = entryAt base tag in
+    let l = bitOf tag 49 in
+    let p = eqb (bits 53 51 tag) own in
+    let i = inSpan base (spanOf e) address in
+    let a = eqb (e .asid) asid || e .global || not (hasAsids (e .company)) in
+    let reads = and-0 (isEntry base tag) _ h in
+    let both : (l && p) ≡ true = and-0 (l && p) i (and-0 (l && p && i) a (and-1 (isEntry base tag) (l && p && i && a) h)) in
+    let own-is : bits 53 51 tag ≡ own = eqb-true (bits 53 51 tag) own (and-1 l p both) in
+    (eqb-true (tag / 2 ^ 49 % 2) 1 (and-0 l p both), omega (arith, own-is, entry-low base tag reads))
 
 -- with the key it matches exactly then
 pub match-key : (key own asid address base tag out : ℕ) → key % 2 ^ 4 ≡ layout → key < 2 ^ 26 → tag % 2 ^ 26 ≡ key →
@@ -33,40 +47,25 @@ match-key key own asid address base tag out hk hl e = go (isEntry base tag) refl
     go true h = sym (match-own key own asid address base tag out hk hl e h)
     go false h = sym (match-empty (companyAt key) own asid address base tag out h)
 
--- only a leaf matches
-pub match-leaf : (c : Company) (own asid address base tag out : ℕ) → (tag / 2 ^ 49 % 2 ≡ 1 → ⊥) → matches c own asid address base tag out ≡ false
-unfolding matches translates holdsAddress entryAt
-match-leaf c own asid address base tag out d =
-    not-so (matches c own asid address base tag out)
-    (λ (h : matches c own asid address base tag out ≡ true).
-    let e = entryAt base tag in
-    let p = eqb (e .processor) own in
-    let i = inSpan base (spanOf e) address in
-    let a = eqb (e .asid) asid || e .global || not (hasAsids (e .company)) in
-    let l = bitOf tag 49 in
-    let t = and-1 (isEntry base tag) (sameCompany (e .company) c && (l && p && i && a)) h in
-    d (eqb-true (tag / 2 ^ 49 % 2) 1 (and-0 l p (and-0 (l && p) i (and-0 (l && p && i) a (and-1 (sameCompany (e .company) c) (l && p && i && a) t))))))
+-- and without the masked part that is wanted it does not
+pub match-elsewhere : (key own asid address base tag out : ℕ) → key % 2 ^ 4 ≡ layout → key < 2 ^ 26 → (masked tag ≡ wanted key own → ⊥) →
+    matches (companyAt key) own asid address base tag out ≡ false
+match-elsewhere key own asid address base tag out hk hl d = go (eqb (tag % 2 ^ 26) key) refl
+  where
+    go : (b : Bool) → eqb (tag % 2 ^ 26) key ≡ b → matches (companyAt key) own asid address base tag out ≡ false
+    go true t =
+        let e = eqb-true (tag % 2 ^ 26) key t in
+        sym (match-key key own asid address base tag out hk hl e)
+        ∙ not-so (holds own asid address base tag) (λ (h : holds own asid address base tag ≡ true).
+        let (leaf, processor) = hold-leaf own asid address base tag h in
+        d (leaf-wanted key own tag (entry-low base tag (and-0 (isEntry base tag) _ h)) e leaf processor))
+    go false n = match-other key own asid address base tag out hk hl (eqb-false (tag % 2 ^ 26) key n)
 
 pub hold-empty : (own asid address base tag : ℕ) → isEntry base tag ≡ false → holds own asid address base tag ≡ false
 hold-empty own asid address base tag h = ap (λ (b : Bool). b && holdsAddress own asid address (entryAt base tag)) h
 
 pub hold-entry : (own asid address base tag : ℕ) → isEntry base tag ≡ true → holds own asid address base tag ≡ holdsAddress own asid address (entryAt base tag)
 hold-entry own asid address base tag h = ap (λ (b : Bool). b && holdsAddress own asid address (entryAt base tag)) h
-
--- the slot of another processor does not
-pub hold-other : (own asid address base tag : ℕ) → (tag / 2 ^ 51 ≡ own → ⊥) → holds own asid address base tag ≡ false
-unfolding holdsAddress entryAt
-hold-other own asid address base tag d =
-    not-so (holds own asid address base tag)
-    (λ (h : holds own asid address base tag ≡ true).
-    let e = entryAt base tag in
-    let l = e .leaf in
-    let p = eqb (bits 53 51 tag) own in
-    let i = inSpan base (spanOf e) address in
-    let a = eqb (e .asid) asid || e .global || not (hasAsids (e .company)) in
-    let reads = and-0 (isEntry base tag) _ h in
-    let own-is : bits 53 51 tag ≡ own = eqb-true (bits 53 51 tag) own (and-1 l p (and-0 (l && p) i (and-0 (l && p && i) a (and-1 (isEntry base tag) (l && p && i && a) h)))) in
-    d (omega (arith, own-is, entry-low base tag reads)))
 
 -- the slot of another span of its size does not
 pub hold-apart : (own asid address base tag k : ℕ) → k ≡ spanOf (entryAt 0 tag) → (base / 2 ^ k ≡ address / 2 ^ k → ⊥) → holds own asid address base tag ≡ false

@@ -64,20 +64,19 @@ fn stage1_of(state: State, regime: Regime) -> Company
     }
 }
 
-// The lowest slot that matches, or the number of slots. Only a leaf translates, so an empty slot, all zeros, is turned away by one bit. The
-// key is the part of a tag that says whose a slot is: one compare turns other companies' slots away.
+// The lowest slot that matches, or the number of slots. The key is the part of a tag that says whose a slot is. Only a leaf of the own
+// processor and the company translates: one masked compare turns all other slots away.
 fn first_match(table: &[u64], key: u64, own: u8, asid: u16, address: u64) -> usize
     requires { ⌜ (length (now table) % 3 ≡ 0) × (key % 2 ^ 4 ≡ layout) × (key < 2 ^ 26) ⌝ }
     ensures { λ r. ⌜ r ≡ first (matches (companyAt key) own asid address) (now (table .entry)) ⌝ }
 {
     let n = table.len() / 3;
+    let want = key + 0x2000000000000 + (own as u64) * 0x8000000000000;
     let mut k = 0;
     while k < n {
-        if table[3 * k + 1] / 0x2000000000000 % 2 == 1 {
-            if table[3 * k + 1] % 0x4000000 == key {
-                if is_match(own, asid, address, table[3 * k], table[3 * k + 1]) {
-                    return k;
-                }
+        if table[3 * k + 1] & 0xFFFA000003FFFFFF == want {
+            if is_match(own, asid, address, table[3 * k], table[3 * k + 1]) {
+                return k;
             }
         }
         k += 1;
@@ -85,13 +84,10 @@ fn first_match(table: &[u64], key: u64, own: u8, asid: u16, address: u64) -> usi
     k
 }
 
-// Whether a slot translates the address. Its processor and its span turn most slots away before the rest is looked at.
+// Whether a slot translates the address. Its span turns most slots away before the rest is looked at.
 fn is_match(own: u8, asid: u16, address: u64, base: u64, tag: u64) -> bool
     ensures { λ r. ⌜ r ≡ (isEntry base tag && holdsAddress own asid address (entryAt base tag)) ⌝ }
 {
-    if tag / 0x8000000000000 != own as u64 {
-        return false;
-    }
     let k = span_at(tag);
     if 54 < k {
         return false;

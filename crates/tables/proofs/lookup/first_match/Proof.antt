@@ -5,19 +5,28 @@ use mathlib.Core.Path.{sym, _∙_}
 use lib.ListN.{getD}
 use borrow.Author.Needs.{needs}
 use Rattle.laws.proofs.Slots.{Seeking, seek-start}
-use Rattle.machine.proofs.Found.{match-other}
 use Rattle.machine.specs.Table.{matches}
 use Rattle.machine.specs.Tag.{companyAt}
 use Rattle.tables.proofs.BySlot.{slot-on, slot-here, slot-end}
-use Rattle.tables.proofs.Elsewhere.{match-key, match-leaf}
+use Rattle.tables.proofs.Elsewhere.{match-key, match-elsewhere}
+use Rattle.tables.proofs.Masked.{wanted-key}
 use Rattle.tables.proofs.lookup.first_match.Statement.{statement}
 use Rattle.tables.proofs.lookup.first_match.Tie as tie
 
 abbrev Inv-loop : tie.InvT-loop
-Inv-loop table key own asid address n k₀ k = Seeking (matches (companyAt key) own asid address) table (3 * k) k
+Inv-loop table key own asid address n want k₀ k = Seeking (matches (companyAt key) own asid address) table (3 * k) k
 
 abbrev μ-loop : tie.MeasureT-loop
-μ-loop table key own asid address n k₀ k = n - k
+μ-loop table key own asid address n want k₀ k = n - k
+
+add-want : tie.Need-add-want Inv-loop μ-loop
+add-want c = search needs
+
+mul-want : tie.Need-mul-want Inv-loop μ-loop
+mul-want c = search needs
+
+add-want-2 : tie.Need-add-want-2 Inv-loop μ-loop
+add-want-2 c = search needs
 
 loop-holds : tie.Need-loop-holds Inv-loop μ-loop
 loop-holds c = seek-start (matches (companyAt (c .before .args .key)) (c .before .args .own) (c .before .args .asid) (c .before .args .address)) (c .before .args .table .now) (c .before .pre .0)
@@ -33,18 +42,6 @@ mul-if1-2 c = search needs
 
 shared-slice-read-if1 : tie.Need-shared-slice-read-if1 Inv-loop μ-loop
 shared-slice-read-if1 c = search needs
-
-mul-if2 : tie.Need-mul-if2 Inv-loop μ-loop
-mul-if2 c = search needs
-
-add-if2 : tie.Need-add-if2 Inv-loop μ-loop
-add-if2 c = search needs
-
-mul-if2-2 : tie.Need-mul-if2-2 Inv-loop μ-loop
-mul-if2-2 c = search needs
-
-shared-slice-read-if2 : tie.Need-shared-slice-read-if2 Inv-loop μ-loop
-shared-slice-read-if2 c = search needs
 
 mul-is-match : tie.Need-mul-is-match Inv-loop μ-loop
 mul-is-match c = search needs
@@ -72,12 +69,16 @@ is-match-requires c κs = search needs
 
 returns : tie.Need-returns Inv-loop μ-loop
 returns c =
-    let a = c .before .before .before .before .before .before .before .before .before .before .before .args in
-    let p = c .before .before .before .before .before .before .before .before .before .before .before .pre in
-    let l = c .before .before .before .before .before .before .before .before .before .loop in
+    let a = c .before .before .before .before .before .before .before .before .before .args in
+    let p = c .before .before .before .before .before .before .before .before .before .pre in
+    let l = c .before .before .before .before .before .before .before .loop in
     let t = a .table .now in
-    let key = match-key (a .key) (a .own) (a .asid) (a .address) (getD t (3 * l .k) 0) (getD t (3 * l .k + 1) 0) (getD t (3 * l .k + 2) 0) (p .1) (p .2) (c .before .before .before .before .if2 .taken) in
-    slot-here (matches (companyAt (a .key)) (a .own) (a .asid) (a .address)) t (l .k) (c .before .before .before .before .before .before .before .before .loop-test .taken) (l .inv) (sym key ∙ sym (c .before .is-match .ensures) ∙ c .if3 .taken)
+    let base = getD t (3 * l .k) 0 in
+    let tag = getD t (3 * l .k + 1) 0 in
+    let out = getD t (3 * l .k + 2) 0 in
+    let key = wanted-key (a .key) (a .own) tag (p .2) (c .before .before .before .before .if1 .taken) in
+    let same = match-key (a .key) (a .own) (a .asid) (a .address) base tag out (p .1) (p .2) key in
+    slot-here (matches (companyAt (a .key)) (a .own) (a .asid) (a .address)) t (l .k) (c .before .before .before .before .before .before .loop-test .taken) (l .inv) (sym same ∙ sym (c .before .is-match .ensures) ∙ c .if2 .taken)
 
 add-k : tie.Need-add-k Inv-loop μ-loop
 add-k c = search needs
@@ -96,10 +97,8 @@ loop-again c =
     let out = getD t (3 * l .k + 2) 0 in
     slot-on (matches (companyAt (a .key)) (a .own) (a .asid) (a .address)) t (l .k) (c .before .before .loop-test .taken) (l .inv)
     (⊎-elim
-    (λ y. sym (match-key (a .key) (a .own) (a .asid) (a .address) base tag out (p .1) (p .2) (y .2 .taken)) ∙ sym (y .5 .ensures) ∙ y .6 .left)
-    (⊎-elim
-    (λ y. match-other (a .key) (a .own) (a .asid) (a .address) base tag out (p .1) (p .2) (y .2 .left))
-    (λ y. match-leaf (companyAt (a .key)) (a .own) (a .asid) (a .address) base tag out (y .left)))
+    (λ y. sym (match-key (a .key) (a .own) (a .asid) (a .address) base tag out (p .1) (p .2) (wanted-key (a .key) (a .own) tag (p .2) (y .0 .taken))) ∙ sym (y .3 .ensures) ∙ y .4 .left)
+    (λ y. match-elsewhere (a .key) (a .own) (a .asid) (a .address) base tag out (p .1) (p .2) (y .left))
     (c .if1 .came))
 
 returns-2 : tie.Need-returns-2 Inv-loop μ-loop
@@ -113,15 +112,14 @@ first-match-spec =
     (tie.spec
     Inv-loop
     μ-loop
+    add-want
+    mul-want
+    add-want-2
     loop-holds
     mul-if1
     add-if1
     mul-if1-2
     shared-slice-read-if1
-    mul-if2
-    add-if2
-    mul-if2-2
-    shared-slice-read-if2
     mul-is-match
     mul-is-match-2
     shared-slice-read-is-match
