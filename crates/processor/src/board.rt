@@ -5,6 +5,7 @@ ghost use Prim.Native.Nat.{_<_, _≤_};
 ghost use lib.ListN.{getD};
 ghost use Rattle.laws.specs.Every.{every};
 ghost use Rattle.machine.specs.State.{agreeBy, badBoard};
+ghost use Rattle.processor.specs.Domains.{isFirst};
 use machine::Board;
 
 pub fn is_bad_board(board: Board) -> bool
@@ -21,7 +22,24 @@ pub fn is_bad_board(board: Board) -> bool
     }
     let inner = board.inner;
     let outer = board.outer;
+    // most boards are one outer domain, and nothing can clash there
+    if is_one_domain(&outer, board.count) {
+        return false;
+    }
     domains_clash(&inner, &outer, board.count)
+}
+
+// Whether every processor below the count is in the domain of the first.
+fn is_one_domain(domains: &[u8; 8], count: u8) -> bool
+    requires { ⌜ count ≤ 8 ⌝ }
+    ensures { λ r. ⌜ r ≡ every (isFirst (now (domains .entry))) count ⌝ }
+{
+    for p in 0..count {
+        if domains[p as usize] != domains[0] {
+            return false;
+        }
+    }
+    true
 }
 
 // Whether two processors below the count are in one inner and different outer domains: each is held against those below it.
