@@ -2,6 +2,7 @@
 mod asids;
 mod cover;
 mod place;
+mod processors;
 
 pub use asids::named_asid;
 pub use cover::is_taken;
@@ -9,3 +10,4 @@ pub use place::entry_in;
 pub use place::is_asked;
 pub use place::leaf_at;
 pub use place::level_at;
+pub use processors::searched_of;

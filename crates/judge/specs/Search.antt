@@ -60,3 +60,17 @@ pub record Searches (t : Target) (works : List Work) (n asid : ℕ) : Type 0 whe
   pub last : t .last < 2 ^ 64
   pub owned : (i : ℕ) → i < n → sameCompany (t .company) (workAt works i .company) ≡ true
   pub legal : (p j q : ℕ) → Candidate t p j q → isLegal (entryIn t asid p j q) ≡ true
+
+-- the target on other processors
+abbrev pub onProcessors : Target → ℕ → Target
+onProcessors t processors = record {
+  company = t .company;
+  wide = t .wide;
+  granule = t .granule;
+  one = t .one;
+  asid = t .asid;
+  leaves = t .leaves;
+  processors = processors;
+  first = t .first;
+  last = t .last;
+}

@@ -5,11 +5,12 @@ use mathlib.Core.List.{List}
 use mathlib.Core.Path.{_≡_}
 use lib.IntN.{pos}
 use lib.ListN.{getD}
-use Rattle.laws.specs.Every.{any}
+use Rattle.laws.specs.Every.{every, any}
+use Rattle.laws.specs.Mask.{bitOf}
 use Rattle.laws.specs.Slots.{slots}
 use Rattle.machine.specs.Answer.{noCompany}
 use Rattle.machine.specs.Execute.{resolvedOf}
-use Rattle.machine.specs.Goes.{isOwned, goes}
+use Rattle.machine.specs.Goes.{goes}
 use Rattle.machine.specs.Judge.{holdsAsid}
 use Rattle.machine.specs.Table.{sameCompany}
 use Rattle.machine.specs.declared.entry.Company.{Company}
@@ -18,6 +19,7 @@ use Rattle.machine.specs.declared.processor.State.{State}
 use Rattle.machine.specs.declared.work.Resolved.{Resolved}
 use Rattle.machine.specs.declared.work.Resolved.the-variants as resolved
 use Rattle.machine.specs.declared.work.Work.{Work}
+use Rattle.steps.specs.declared.checks.Checked.{Checked}
 
 -- no work at all: it reaches nobody
 abbrev pub noWork : Work
@@ -69,9 +71,12 @@ pub record FirstOther (c : Company) (works : List Work) (n r : ℕ) : Type 0 whe
   pub lower : (i : ℕ) → i < r → sameCompany (workAt works i .company) c ≡ true
   pub here : r < n → sameCompany (workAt works r .company) c ≡ false
 
--- n works are of the company of an entry
-abbrev pub AreOwned : List Work → ℕ → Entry → Type 0
-AreOwned works n e = (i : ℕ) → i < n → isOwned (workAt works i) e ≡ true
+-- what a pass over n works says of them
+pub record Checks (c : Company) (works : List Work) (n : ℕ) (r : Checked) : Type 0 where
+  pub refused : FirstNone works n (r .refused)
+  pub outside : FirstOther c works n (r .outside)
+  -- the processors that every one of them reaches
+  pub common : (p : ℕ) → p < 8 → bitOf (r .common) p ≡ every (λ (i : ℕ). bitOf (workAt works i .reached) p) n
 
 -- one of n works drops an entry; the used ASID field of one holds a number
 abbrev pub takenBy : List Work → ℕ → Entry → Bool

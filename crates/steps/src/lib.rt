@@ -1,6 +1,7 @@
-// Steps: the works of a list's steps, the first that is refused, and the first that is of another company.
+// Steps: the works of a list's steps, the first that is refused or of another company, and the processors that all of them reach.
+mod checks;
 mod steps;
 
-pub use steps::first_other;
-pub use steps::first_refused;
+pub use checks::Checked;
+pub use checks::check;
 pub use steps::works_of;

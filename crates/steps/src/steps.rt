@@ -1,16 +1,14 @@
-// The works of a list's steps, once for the whole judgement, the first step that has none, and the first that is of another company.
-ghost use Prim.Native.Nat.{_≤_};
+// The works of a list's steps, once for the whole judgement.
 ghost use mathlib.Core.Bool.{true};
 ghost use mathlib.Core.Path.{_≡_};
 ghost use Rattle.machine.specs.Execute.{isList};
-ghost use Rattle.steps.specs.Steps.{noWork, workIn, AreSteps, FirstNone, FirstOther};
+ghost use Rattle.steps.specs.Steps.{noWork, workIn, AreSteps};
 use machine::Company;
 use machine::Regime;
 use machine::Resolved;
 use machine::Security;
 use machine::State;
 use machine::Work;
-use tags::same_company;
 use works::resolve;
 
 fn no_work() -> Work
@@ -65,33 +63,4 @@ pub fn works_of(list: &[u64], state: State) -> [Work; 16]
         works[i] = work_in(resolved);
     }
     works
-}
-
-// The first step that is refused, or the number of steps: every work has a granule, and what stands for none has not.
-pub fn first_refused(works: [Work; 16], n: usize) -> usize
-    requires { ⌜ n ≤ 16 ⌝ }
-    ensures { λ r. ⌜ FirstNone works n r ⌝ }
-{
-    for i in 0..n {
-        let work = works[i];
-        if work.granule == 0 {
-            return i;
-        }
-    }
-    n
-}
-
-// The first step of another company, or the number of steps.
-pub fn first_other(works: [Work; 16], n: usize, company: Company) -> usize
-    requires { ⌜ n ≤ 16 ⌝ }
-    ensures { λ r. ⌜ FirstOther company works n r ⌝ }
-{
-    for i in 0..n {
-        let work = works[i];
-        let own = work.company;
-        if !same_company(own, company) {
-            return i;
-        }
-    }
-    n
 }
