@@ -1,2 +1,3 @@
 -- Laws of this room.
 pub mod Apart
+pub mod Keyed

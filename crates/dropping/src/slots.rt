@@ -1,8 +1,10 @@
 // One pass over the slots of a table, which drops the entries that go.
 ghost use Prim.Native.Nat.{_%_, _^_, _<_, _≤_};
+ghost use mathlib.Core.Bool.{true};
 ghost use mathlib.Core.Path.{_≡_};
 ghost use lib.ListN.{length};
 ghost use Rattle.laws.specs.Slots.{count, cleared};
+ghost use Rattle.machine.specs.Entry.{isCompany};
 ghost use Rattle.machine.specs.Goes.{keyOf, drops};
 ghost use Rattle.machine.specs.Tag.{companyTag};
 ghost use Rattle.dropping.specs.Lows.{AreLows};
@@ -10,12 +12,12 @@ use crate::lows::lows_of;
 use machine::Work;
 use tags::company_tag;
 use tags::entry_at;
-use tags::is_entry;
+use tags::is_entry_of;
 use works::goes;
 
 // Three zeros for each slot that is dropped, and how many there are. One compare turns away the slots of other companies and granules.
 pub fn drop_all(table: &mut [u64], work: Work) -> usize
-    requires { ⌜ (length (now table) % 3 ≡ 0) × (work .granule ≤ 3) ⌝ }
+    requires { ⌜ (length (now table) % 3 ≡ 0) × (1 ≤ work .granule) × (work .granule ≤ 3) × (isCompany (work .company) ≡ true) ⌝ }
     ensures { λ r. ⌜ r ≡ count (drops work) (now (table .entry)) ⌝ }
     ensures { λ r. ⌜ now (table .exit) ≡ cleared (drops work) (now (table .entry)) ⌝ }
 {
@@ -46,9 +48,10 @@ fn key_of(work: Work) -> u64
     company_tag(company) + work.granule * 0x4000000
 }
 
-// A slot with the key is turned away by its range before the rest of it is looked at.
+// A slot with the key is turned away by its range before the rest of it is looked at, and the key is not looked at again.
 fn is_dropped(work: Work, lows: &[u64; 16], base: u64, tag: u64) -> bool
-    requires { ⌜ (tag % 2 ^ 28 ≡ keyOf work) × (companyTag (work .company) < 2 ^ 26) × (work .company .vmid < 2 ^ 16) × (work .granule ≤ 3) × AreLows work (now lows) ⌝ }
+    requires { ⌜ (tag % 2 ^ 28 ≡ keyOf work) × (companyTag (work .company) < 2 ^ 26) × (work .company .vmid < 2 ^ 16) × AreLows work (now lows) ⌝ }
+    requires { ⌜ (1 ≤ work .granule) × (work .granule ≤ 3) × (isCompany (work .company) ≡ true) ⌝ }
     ensures { λ r. ⌜ r ≡ drops work base tag 0 ⌝ }
 {
     if work.last < base {
@@ -58,7 +61,7 @@ fn is_dropped(work: Work, lows: &[u64; 16], base: u64, tag: u64) -> bool
     if base < lows[x] {
         return false;
     }
-    if !is_entry(base, tag) {
+    if !is_entry_of(base, tag) {
         return false;
     }
     let entry = entry_at(base, tag);

@@ -1,2 +1,2 @@
 -- What the contracts of this room cite.
-pub mod Granule
+pub mod Sound

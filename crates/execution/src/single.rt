@@ -3,7 +3,7 @@ ghost use Prim.Native.Nat.{_%_};
 ghost use mathlib.Core.Path.{_≡_};
 ghost use lib.ListN.{length};
 ghost use Rattle.machine.specs.Execute.{executedBy, tableBy, executedOf, executeTable};
-ghost use Rattle.execution.specs.Granule.{HasGranule};
+ghost use Rattle.execution.specs.Sound.{IsSound};
 use dropping::drop_all;
 use machine::Executed;
 use machine::Resolved;
@@ -28,7 +28,7 @@ pub fn execute(table: &mut [u64], state: State, word: u64, xt: u64, xt2: u64) ->
 
 // What execute does after its checks of shape and state, with what the operation comes to.
 pub fn carry_out(table: &mut [u64], resolved: Resolved) -> Executed
-    requires { ⌜ (length (now table) % 3 ≡ 0) × HasGranule resolved ⌝ }
+    requires { ⌜ (length (now table) % 3 ≡ 0) × IsSound resolved ⌝ }
     ensures { λ r. ⌜ r ≡ executedBy resolved (now (table .entry)) ⌝ }
     ensures { λ r. ⌜ now (table .exit) ≡ tableBy resolved (now (table .entry)) ⌝ }
 {

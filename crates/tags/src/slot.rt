@@ -1,11 +1,12 @@
 // What a slot's base and tag read as.
-ghost use mathlib.Core.Bool.{not, _&&_, _||_};
+ghost use Prim.Native.Nat.{_%_, _^_, _≤_};
+ghost use mathlib.Core.Bool.{true, not, _&&_, _||_};
 ghost use mathlib.Core.Path.{_≡_};
 ghost use lib.Dec.{eqb};
 ghost use Rattle.laws.specs.Bits.{bits};
 ghost use Rattle.laws.specs.Mask.{bitOf};
 ghost use Rattle.machine.specs.Entry.{isCompany, hasAsids, inReach, spanOf};
-ghost use Rattle.machine.specs.Tag.{companyAt, entryAt, isEntry};
+ghost use Rattle.machine.specs.Tag.{layout, companyAt, entryAt, isEntry};
 use crate::number::level_at;
 use crate::number::regime_at;
 use crate::number::security_at;
@@ -103,6 +104,20 @@ pub fn is_entry(base: u64, tag: u64) -> bool
     if tag % 16 != 1 {
         return false;
     }
+    if tag / 0x4000000 % 4 == 0 {
+        return false;
+    }
+    if !is_company_at(tag) {
+        return false;
+    }
+    is_entry_of(base, tag)
+}
+
+// What is left to test of a slot whose layout number, granule and company are an entry's, as they are where its lower part is a key.
+pub fn is_entry_of(base: u64, tag: u64) -> bool
+    requires { ⌜ (tag % 2 ^ 4 ≡ layout) × (1 ≤ bits 27 26 tag) × (isCompany (companyAt tag) ≡ true) ⌝ }
+    ensures { λ r. ⌜ r ≡ isEntry base tag ⌝ }
+{
     if 0x40000000000000 <= tag {
         return false;
     }
@@ -110,13 +125,7 @@ pub fn is_entry(base: u64, tag: u64) -> bool
     if 54 < k {
         return false;
     }
-    if tag / 0x4000000 % 4 == 0 {
-        return false;
-    }
     if !is_multiple(base, k) {
-        return false;
-    }
-    if !is_company_at(tag) {
         return false;
     }
     let leaf = tag / 0x2000000000000 % 2 == 1;

@@ -51,7 +51,11 @@ slice-read-is-dropped-2 : tie.Need-slice-read-is-dropped-2 Inv-loop μ-loop
 slice-read-is-dropped-2 c = search needs
 
 is-dropped-requires : tie.Need-is-dropped-requires Inv-loop μ-loop
-is-dropped-requires c κs = search needs
+is-dropped-requires c κs =
+    let start = c .before .before .before .before .before .before .before .before .before .before in
+    let key = c .before .before .before .before .before .before .before .before .key-of .ensures in
+    let lows = c .before .before .before .before .before .before .before .lows-of .ensures in
+    ((c .before .before .before .if1 .taken ∙ key .0, key .1, key .2, lows), (start .pre .1, start .pre .2, start .pre .3))
 
 mul-table : tie.Need-mul-table Inv-loop μ-loop
 mul-table c = search needs

@@ -10,6 +10,7 @@ use Rattle.machine.proofs.Tags.{reads-written}
 use Rattle.machine.specs.Entry.{isLegal}
 use Rattle.machine.specs.Goes.{isOwned, isGranuleOf, isMet, goes}
 use Rattle.dropping.proofs.Apart.{drop-above, drop-below, low-met}
+use Rattle.dropping.proofs.Keyed.{keyed}
 use Rattle.dropping.proofs.slots.is_dropped.Statement.{statement}
 use Rattle.dropping.proofs.slots.is_dropped.Tie as tie
 
@@ -26,16 +27,19 @@ returns-2 : tie.Need-returns-2
 returns-2 c =
     let a = c .before .before .before .before .args in
     let p = c .before .before .before .before .pre in
-    let own = p .4 (a .tag / 2 ^ 45 % 16) (mod-lt (a .tag / 2 ^ 45) (omega arith)) in
-    sym (drop-below (a .work) (a .base) (a .tag) 0 (p .0) (p .1) (p .3) (omega (arith, own, c .if2 .taken)))
+    let own = p .0 .3 (a .tag / 2 ^ 45 % 16) (mod-lt (a .tag / 2 ^ 45) (omega arith)) in
+    sym (drop-below (a .work) (a .base) (a .tag) 0 (p .0 .0) (p .0 .1) (p .1 .1) (omega (arith, own, c .if2 .taken)))
 
-is-entry-requires : tie.Need-is-entry-requires
-is-entry-requires c κs = search needs
+is-entry-of-requires : tie.Need-is-entry-of-requires
+is-entry-of-requires c κs =
+    let a = c .before .before .before .before .args in
+    let p = c .before .before .before .before .pre in
+    keyed (a .work) (a .tag) (p .0 .0) (p .0 .1) (p .0 .2) (p .1 .0) (p .1 .1) (p .1 .2)
 
 returns-3 : tie.Need-returns-3
 returns-3 c =
     let a = c .before .before .before .before .before .before .args in
-    sym (drop-empty (a .work) (a .base) (a .tag) 0 (sym (c .before .is-entry .ensures) ∙ not-true _ (c .if3 .taken)))
+    sym (drop-empty (a .work) (a .base) (a .tag) 0 (sym (c .before .is-entry-of .ensures) ∙ not-true _ (c .if3 .taken)))
 
 entry-at-requires : tie.Need-entry-at-requires
 entry-at-requires c κs = search needs
@@ -44,17 +48,17 @@ goes-requires : tie.Need-goes-requires
 goes-requires c κs =
     let a = c .before .before .before .before .before .before .before .args in
     let p = c .before .before .before .before .before .before .before .pre in
-    let h = sym (c .before .before .is-entry .ensures) ∙ not-false _ (c .before .if3 .left) in
+    let h = sym (c .before .before .is-entry-of .ensures) ∙ not-false _ (c .before .if3 .left) in
     let e = c .entry-at .ensures in
-    let own = drop-own (a .work) (a .base) (a .tag) h (p .0) (p .1) (p .2) (p .3) in
-    let low = p .4 (a .tag / 2 ^ 45 % 16) (mod-lt (a .tag / 2 ^ 45) (omega arith)) in
-    let met = low-met (a .work) (a .base) (a .tag) (p .0) (p .1) (p .3) h (omega (arith, low, c .before .before .before .if2 .left)) (c .before .before .before .before .before .if1 .left) in
+    let own = drop-own (a .work) (a .base) (a .tag) h (p .0 .0) (p .0 .1) (p .0 .2) (p .1 .1) in
+    let low = p .0 .3 (a .tag / 2 ^ 45 % 16) (mod-lt (a .tag / 2 ^ 45) (omega arith)) in
+    let met = low-met (a .work) (a .base) (a .tag) (p .0 .0) (p .0 .1) (p .1 .1) h (omega (arith, low, c .before .before .before .if2 .left)) (c .before .before .before .before .before .if1 .left) in
     (ap isLegal e ∙ reads-written (a .base) (a .tag) h .1, ap (isOwned (a .work)) e ∙ own .0, ap (isGranuleOf (a .work)) e ∙ own .1, ap (isMet (a .work)) e ∙ met)
 
 returns-4 : tie.Need-returns-4
 returns-4 c =
     let a = c .before .before .before .before .before .before .before .before .args in
-    let h = sym (c .before .before .before .is-entry .ensures) ∙ not-false _ (c .before .before .if3 .left) in
+    let h = sym (c .before .before .before .is-entry-of .ensures) ∙ not-false _ (c .before .before .if3 .left) in
     c .goes .ensures ∙ ap (goes (a .work)) (c .before .entry-at .ensures) ∙ sym (drop-entry (a .work) (a .base) (a .tag) 0 h)
 
 pub is-dropped-spec : {M : Type 1} → statement M
@@ -65,7 +69,7 @@ is-dropped-spec =
     mul-if2
     element-copy-out-if2
     returns-2
-    is-entry-requires
+    is-entry-of-requires
     returns-3
     entry-at-requires
     goes-requires

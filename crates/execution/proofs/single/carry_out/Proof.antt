@@ -12,7 +12,8 @@ enum-known-resolved c = search needs
 drop-all-requires : tie.Need-drop-all-requires
 drop-all-requires c κs =
     let p = c .before .before .before .before .before .pre in
-    (p .0, p .1 (c .before .before .resolved .given .0 .0) (c .before .before .resolved .given .1))
+    let s = p .1 (c .before .before .resolved .given .0 .0) (c .before .before .resolved .given .1) in
+    (p .0, s .0, s .1, s .2)
 
 enum-told : tie.Need-enum-told
 enum-told c = search needs

@@ -1,11 +1,12 @@
 -- `execution::single::execute` meets its contract.
-use mathlib.Core.Path.{sym, ap, _∙_}
+use mathlib.Core.Path.{sym, ap, subst, _∙_}
 use borrow.Author.Needs.{needs}
 use borrow.Author.Tests.{not-true, not-false}
 use Rattle.machine.proofs.Executing.{execute-13, execute-2, execute-good}
 use Rattle.machine.proofs.Inserting.{table-shape}
-use Rattle.machine.proofs.Works.{fit}
 use Rattle.machine.specs.Execute.{executedBy, tableBy}
+use Rattle.execution.proofs.Sound.{resolved-sound}
+use Rattle.execution.specs.Sound.{IsSound}
 use Rattle.execution.proofs.single.execute.Statement.{statement}
 use Rattle.execution.proofs.single.execute.Tie as tie
 
@@ -33,8 +34,8 @@ resolve-requires c κs = search needs
 carry-out-requires : tie.Need-carry-out-requires
 carry-out-requires c κs =
     let a = c .before .before .before .before .before .before .before .args in
-    let r = c .before .resolve .ensures in
-    (table-shape (a .table .now) (sym (c .before .before .before .before .before .is-table .ensures) ∙ not-false _ (c .before .before .before .before .if1 .left)) .0, λ w e. fit (a .state) (a .word) (a .xt) (a .xt2) w (sym r ∙ e) .granule-most)
+    let sound = subst IsSound (sym (c .before .resolve .ensures)) (resolved-sound (a .state) (a .word) (a .xt) (a .xt2)) in
+    (table-shape (a .table .now) (sym (c .before .before .before .before .before .is-table .ensures) ∙ not-false _ (c .before .before .before .before .if1 .left)) .0, sound)
 
 same-length : tie.Need-same-length
 same-length c = search needs

@@ -1,11 +1,12 @@
 -- `running::running::run_step` meets its contract.
-use mathlib.Core.Path.{sym, ap, _∙_}
+use mathlib.Core.Path.{sym, ap, subst, _∙_}
 use native.Mathlib.Omega.{arith}
 use borrow.Author.Needs.{needs}
 use Rattle.machine.proofs.Executing.{dropped-most}
-use Rattle.machine.proofs.Works.{fit}
 use Rattle.machine.specs.Answer.{executedDropped}
 use Rattle.machine.specs.Execute.{executedBy, tableBy, resolvedOf}
+use Rattle.execution.proofs.Sound.{resolved-sound}
+use Rattle.execution.specs.Sound.{IsSound}
 use Rattle.running.proofs.running.run_step.Statement.{statement}
 use Rattle.running.proofs.running.run_step.Tie as tie
 
@@ -15,7 +16,7 @@ resolve-requires c κs = search needs
 carry-out-requires : tie.Need-carry-out-requires
 carry-out-requires c κs =
     let a = c .before .before .before .args in
-    (c .before .before .before .pre, λ w e. fit (a .state) (a .word) (a .xt) (a .xt2) w (sym (c .before .resolve .ensures) ∙ e) .granule-most)
+    (c .before .before .before .pre, subst IsSound (sym (c .before .resolve .ensures)) (resolved-sound (a .state) (a .word) (a .xt) (a .xt2)))
 
 dropped-requires : tie.Need-dropped-requires
 dropped-requires c κs = search needs
