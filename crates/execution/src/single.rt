@@ -10,6 +10,7 @@ use machine::Resolved;
 use machine::State;
 use processor::is_bad;
 use tables::is_table;
+use words::OperationWord;
 use works::resolve;
 
 pub fn execute(table: &mut [u64], state: State, word: u64, xt: u64, xt2: u64) -> Executed
@@ -22,7 +23,8 @@ pub fn execute(table: &mut [u64], state: State, word: u64, xt: u64, xt2: u64) ->
     if is_bad(state) {
         return Executed::BadState;
     }
-    let resolved = resolve(state, word, xt, xt2);
+    let read = OperationWord { bits: word }.read();
+    let resolved = resolve(state, read, xt, xt2);
     carry_out(table, resolved)
 }
 

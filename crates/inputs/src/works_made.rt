@@ -9,9 +9,11 @@ use crate::steps::Step;
 use machine::Resolved;
 use machine::State;
 use machine::Work;
+use words::OperationWord;
 
 pub fn work_of(state: State, step: Step, seed: u64) -> Work {
-    let resolved = works::resolve(state, step.word, step.xt, step.xt2);
+    let read = OperationWord { bits: step.word }.read();
+    let resolved = works::resolve(state, read, step.xt, step.xt2);
     match resolved {
         Resolved::Works(work) => work,
         Resolved::Unknown => any_work(seed),

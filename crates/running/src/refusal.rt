@@ -6,6 +6,7 @@ ghost use Rattle.laws.specs.Slots.{first};
 ghost use Rattle.machine.specs.Execute.{refuses};
 use machine::Resolved;
 use machine::State;
+use words::OperationWord;
 use works::resolve;
 
 // The first step that does not answer 0, or the number of steps.
@@ -28,7 +29,8 @@ pub fn first_refused(list: &[u64], state: State) -> usize
 fn is_refused(state: State, word: u64, xt: u64, xt2: u64) -> bool
     ensures { λ r. ⌜ r ≡ refuses state word xt xt2 ⌝ }
 {
-    match resolve(state, word, xt, xt2) {
+    let read = OperationWord { bits: word }.read();
+    match resolve(state, read, xt, xt2) {
         Resolved::Works(work) => false,
         Resolved::Unknown => true,
         Resolved::Undefined => true,

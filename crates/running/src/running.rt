@@ -15,6 +15,7 @@ use machine::State;
 use processor::is_bad;
 use tables::is_list;
 use tables::is_table;
+use words::OperationWord;
 use works::resolve;
 
 pub fn run(table: &mut [u64], state: State, list: &[u64]) -> Ran
@@ -60,7 +61,8 @@ fn run_step(table: &mut [u64], state: State, word: u64, xt: u64, xt2: u64) -> us
     ensures { λ r. ⌜ (r ≡ executedDropped (executedBy (resolvedOf state word xt xt2) (now (table .entry)))) × (3 * r ≤ length (now (table .entry))) ⌝ }
     ensures { λ r. ⌜ now (table .exit) ≡ tableBy (resolvedOf state word xt xt2) (now (table .entry)) ⌝ }
 {
-    let resolved = resolve(state, word, xt, xt2);
+    let read = OperationWord { bits: word }.read();
+    let resolved = resolve(state, read, xt, xt2);
     let executed = carry_out(table, resolved);
     dropped(executed)
 }

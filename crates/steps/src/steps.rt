@@ -9,6 +9,7 @@ use machine::Resolved;
 use machine::Security;
 use machine::State;
 use machine::Work;
+use words::OperationWord;
 use works::resolve;
 
 fn no_work() -> Work
@@ -59,7 +60,8 @@ pub fn works_of(list: &[u64], state: State) -> [Work; 16]
     let blank = no_work();
     let mut works = [blank; 16];
     for i in 0..list.len() / 3 {
-        let resolved = resolve(state, list[3 * i], list[3 * i + 1], list[3 * i + 2]);
+        let read = OperationWord { bits: list[3 * i] }.read();
+        let resolved = resolve(state, read, list[3 * i + 1], list[3 * i + 2]);
         works[i] = work_in(resolved);
     }
     works

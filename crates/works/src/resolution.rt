@@ -3,7 +3,7 @@ ghost use Prim.Native.Nat.{_<_};
 ghost use mathlib.Core.Path.{_≡_};
 ghost use Rattle.machine.specs.Access.{accessOf};
 ghost use Rattle.machine.specs.Asked.{askedOf};
-ghost use Rattle.machine.specs.Execute.{resolvedRange, resolvedAccess, resolvedOf};
+ghost use Rattle.machine.specs.Execute.{resolvedRange, resolvedAccess, resolvedWord};
 ghost use Rattle.machine.specs.Goes.{companyOf, workOf};
 use access::decide;
 use machine::Access;
@@ -18,12 +18,11 @@ use machine::Scope;
 use machine::State;
 use machine::Work;
 use ranges::asked;
-use words::OperationWord;
 
-pub fn resolve(state: State, word: u64, xt: u64, xt2: u64) -> Resolved
-    ensures { λ r. ⌜ r ≡ resolvedOf state word xt xt2 ⌝ }
+// The word comes read: a call between a state's arrival and its use would have every field of the state put aside for it.
+pub fn resolve(state: State, read: Decoded, xt: u64, xt2: u64) -> Resolved
+    ensures { λ r. ⌜ r ≡ resolvedWord state xt xt2 read ⌝ }
 {
-    let read = OperationWord { bits: word }.read();
     match read {
         Decoded::Known(op) => by_access(state, op, xt, xt2),
         Decoded::Unknown => Resolved::Unknown,

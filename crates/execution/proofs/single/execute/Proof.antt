@@ -9,6 +9,7 @@ use Rattle.execution.proofs.Sound.{resolved-sound}
 use Rattle.execution.specs.Sound.{IsSound}
 use Rattle.execution.proofs.single.execute.Statement.{statement}
 use Rattle.execution.proofs.single.execute.Tie as tie
+use Rattle.works.proofs.Reading.{read-resolved}
 
 is-table-requires : tie.Need-is-table-requires
 is-table-requires c κs = search needs
@@ -28,25 +29,29 @@ returns-2 c =
     let r = execute-2 (a .state) (a .word) (a .xt) (a .xt2) (a .table .now) (sym (c .before .before .before .is-table .ensures) ∙ not-false _ (c .before .before .if1 .left)) (sym (c .before .is-bad .ensures) ∙ c .if2 .taken) in
     (sym (r .0), sym (r .1))
 
+read-requires : tie.Need-read-requires
+read-requires c κs = search needs
+
 resolve-requires : tie.Need-resolve-requires
 resolve-requires c κs = search needs
 
 carry-out-requires : tie.Need-carry-out-requires
 carry-out-requires c κs =
-    let a = c .before .before .before .before .before .before .before .args in
-    let sound = subst IsSound (sym (c .before .resolve .ensures)) (resolved-sound (a .state) (a .word) (a .xt) (a .xt2)) in
-    (table-shape (a .table .now) (sym (c .before .before .before .before .before .is-table .ensures) ∙ not-false _ (c .before .before .before .before .if1 .left)) .0, sound)
+    let a = c .before .before .before .before .before .before .before .before .args in
+    let e = read-resolved (a .state) (a .word) (a .xt) (a .xt2) _ _ (c .before .before .read .ensures) (c .before .resolve .ensures) in
+    let sound = subst IsSound (sym e) (resolved-sound (a .state) (a .word) (a .xt) (a .xt2)) in
+    (table-shape (a .table .now) (sym (c .before .before .before .before .before .before .is-table .ensures) ∙ not-false _ (c .before .before .before .before .before .if1 .left)) .0, sound)
 
 same-length : tie.Need-same-length
 same-length c = search needs
 
 returns-3 : tie.Need-returns-3
 returns-3 c =
-    let a = c .before .before .before .before .before .before .before .before .before .before .args in
+    let a = c .before .before .before .before .before .before .before .before .before .before .before .args in
     let l = a .table .now in
     let done = c .before .before .carry-out .ensures in
-    let e = c .before .before .before .before .resolve .ensures in
-    let r = execute-good (a .state) (a .word) (a .xt) (a .xt2) l (sym (c .before .before .before .before .before .before .before .before .is-table .ensures) ∙ not-false _ (c .before .before .before .before .before .before .before .if1 .left)) (sym (c .before .before .before .before .before .before .is-bad .ensures) ∙ c .before .before .before .before .before .if2 .left) in
+    let e = read-resolved (a .state) (a .word) (a .xt) (a .xt2) _ _ (c .before .before .before .before .before .read .ensures) (c .before .before .before .before .resolve .ensures) in
+    let r = execute-good (a .state) (a .word) (a .xt) (a .xt2) l (sym (c .before .before .before .before .before .before .before .before .before .is-table .ensures) ∙ not-false _ (c .before .before .before .before .before .before .before .before .if1 .left)) (sym (c .before .before .before .before .before .before .before .is-bad .ensures) ∙ c .before .before .before .before .before .before .if2 .left) in
     (done .0 ∙ ap (λ x. executedBy x l) e ∙ sym (r .0), done .1 ∙ ap (λ x. tableBy x l) e ∙ sym (r .1))
 
 pub execute-spec : {M : Type 1} → statement M
@@ -57,6 +62,7 @@ execute-spec =
     returns
     is-bad-requires
     returns-2
+    read-requires
     resolve-requires
     carry-out-requires
     same-length

@@ -1,14 +1,15 @@
 -- `steps::steps::works_of` meets its contract.
-use Prim.Native.Nat.{ℕ, _-_, _/_, _≤_, _<_}
+use Prim.Native.Nat.{ℕ, _+_, _-_, _*_, _/_, _≤_, _<_}
 use mathlib.Core.Path.{_≡_, refl, ap, _∙_}
 use native.Mathlib.Omega.{arith}
-use lib.ListN.{length, length-set}
+use lib.ListN.{length, getD, length-set}
 use borrow.Author.Needs.{needs}
 use Rattle.machine.proofs.Running.{list-shape}
 use Rattle.steps.proofs.Loops.{Each, each-more, each-end}
 use Rattle.steps.proofs.steps.works_of.Statement.{statement}
-use Rattle.steps.specs.Steps.{workIn}
 use Rattle.steps.proofs.steps.works_of.Tie as tie
+use Rattle.steps.specs.Steps.{workIn}
+use Rattle.works.proofs.Reading.{read-resolved}
 
 abbrev Inv-loop : tie.InvT-loop
 Inv-loop list state works₀ i₀ i-end works i = (i ≤ i-end) × (i-end ≡ length list / 3) × (i-end ≤ 16) × (length works ≡ 16) × Each state list works i
@@ -30,6 +31,9 @@ mul-resolve-2 c = search needs
 
 shared-slice-read-resolve : tie.Need-shared-slice-read-resolve Inv-loop μ-loop
 shared-slice-read-resolve c = search needs
+
+read-requires : tie.Need-read-requires Inv-loop μ-loop
+read-requires c κs = search needs
 
 mul-resolve-3 : tie.Need-mul-resolve-3 Inv-loop μ-loop
 mul-resolve-3 c = search needs
@@ -74,7 +78,17 @@ loop-less : tie.Need-loop-less Inv-loop μ-loop
 loop-less c = search needs
 
 loop-again : tie.Need-loop-again Inv-loop μ-loop
-loop-again c = (omega arith, refl, omega arith, simp length-set (omega arith), each-more (c .before .before .before .before .before .before .before .before .before .args .state) (c .before .before .before .before .before .before .before .before .before .args .list .now) (c .before .before .before .before .before .before .loop .works) (c .before .before .before .before .before .before .loop .i) (c .work-in .result) (omega arith) (c .work-in .ensures ∙ ap workIn (c .before .resolve .ensures)) (c .before .before .before .before .before .before .loop .inv .4))
+loop-again c =
+    let a = c .before .before .before .before .before .before .before .before .before .before .args in
+    let l = c .before .before .before .before .before .before .before .loop in
+    let steps = a .list .now in
+    let resolved = read-resolved (a .state) (getD steps (3 * l .i) 0) (getD steps (3 * l .i + 1) 0) (getD steps (3 * l .i + 2) 0) _ _ (c .before .before .before .before .read .ensures) (c .before .resolve .ensures) in (
+      omega arith,
+      refl,
+      omega arith,
+      simp length-set (omega arith),
+      each-more (a .state) steps (l .works) (l .i) (c .work-in .result) (omega arith) (c .work-in .ensures ∙ ap workIn resolved) (l .inv .4),
+    )
 
 returns : tie.Need-returns Inv-loop μ-loop
 returns c = each-end (c .before .before .before .before .args .state) (c .before .before .before .before .args .list .now) (c .before .loop .works) (c .before .loop .i) (omega arith) (c .before .loop .inv .4)
@@ -90,6 +104,7 @@ works-of-spec =
     mul-resolve
     mul-resolve-2
     shared-slice-read-resolve
+    read-requires
     mul-resolve-3
     add-resolve
     mul-resolve-4
