@@ -12,7 +12,7 @@ use crate::lows::lows_of;
 use machine::Work;
 use tags::company_tag;
 use tags::entry_at;
-use tags::is_entry_of;
+use tags::is_rest;
 use works::goes;
 
 // Three zeros for each slot that is dropped, and how many there are. One compare turns away the slots of other companies and granules.
@@ -61,7 +61,7 @@ fn is_dropped(work: Work, lows: &[u64; 16], base: u64, tag: u64) -> bool
     if base < lows[x] {
         return false;
     }
-    if !is_entry_of(base, tag) {
+    if !is_rest(base, tag) {
         return false;
     }
     let entry = entry_at(base, tag);

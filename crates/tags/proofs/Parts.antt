@@ -1,12 +1,12 @@
 -- What stands in a base and a tag, part by part: each part that breaks a rule makes the slot empty, and all parts together make it an entry.
 use Prim.Native.Nat.{ℕ, _/_, _%_, _^_, _<_, _≤_}
 use mathlib.Core.Bool.{Bool, true, false, not, _&&_, _||_}
-use mathlib.Core.Path.{_≡_, sym, ap, _∙_}
+use mathlib.Core.Path.{_≡_, refl, sym, ap, _∙_}
 use native.Mathlib.Nat.{mod-lt}
 use native.Mathlib.Omega.{arith}
-use lib.Dec.{eqb, leb}
+use lib.Dec.{eqb, ltb, leb}
 use lib.IntN.{ℤ, pos, negsuc}
-use borrow.Author.Tests.{leb-true, le-leb, eq-eqb, lt-ltb}
+use borrow.Author.Tests.{leb-true, ltb-true, le-leb, eq-eqb, lt-ltb}
 use Rattle.laws.proofs.Truth.{and-0, and-1, not-so, clash}
 use Rattle.laws.specs.Bits.{bits}
 use Rattle.laws.specs.Mask.{bitOf}
@@ -15,6 +15,7 @@ use Rattle.machine.proofs.Tags.{Legal, legal, height-there, tag-whole, reads-wr
 use Rattle.machine.specs.Entry.{isCompany, hasAsids, isPlaced, inReach, spanOf, isLegal}
 use Rattle.machine.specs.Span.{isLevel, exponentAt, exponentOf, hasSpan}
 use Rattle.machine.specs.Tag.{layout, tagOf, companyAt, entryAt, isEntry}
+use Rattle.tags.specs.Rest.{isReach, isRest}
 
 -- the span that stands in a tag, by its numbers
 pub span-numbers : (tag : ℕ) → exponentAt (bitOf tag 45) (bits 27 26 tag) (bits 48 46 tag) ≡ spanOf (entryAt 0 tag)
@@ -44,21 +45,9 @@ no-granule base tag n =
     let m : 1 ≤ g = leb-true 1 g (and-0 (leb 1 g) (leb g 3) (span-tg _ _ _ (entry-legal base tag h .span))) in
     omega (arith, n, m))
 
-pub no-more : (base tag : ℕ) → 2 ^ 54 ≤ tag → isEntry base tag ≡ false
-no-more base tag n = not-so (isEntry base tag) (λ (h : isEntry base tag ≡ true). omega (arith, n, entry-low base tag h))
-
 pub no-company : (base tag : ℕ) → isCompany (companyAt tag) ≡ false → isEntry base tag ≡ false
 unfolding entryAt
 no-company base tag n = not-so (isEntry base tag) (λ (h : isEntry base tag ≡ true). clash (entry-legal base tag h .company) n)
-
-pub no-place : (base tag : ℕ) → isPlaced (entryAt 0 tag .leaf) (entryAt 0 tag .level) (entryAt 0 tag .global) ≡ false → isEntry base tag ≡ false
-unfolding entryAt
-no-place base tag n = not-so (isEntry base tag) (λ (h : isEntry base tag ≡ true). clash (entry-legal base tag h .placed) n)
-
-pub no-multiple : (base tag : ℕ) → eqb (base % 2 ^ spanOf (entryAt 0 tag)) 0 ≡ false → isEntry base tag ≡ false
-unfolding entryAt
-no-multiple base tag n =
-    not-so (isEntry base tag) (λ (h : isEntry base tag ≡ true). clash (eq-eqb _ _ (entry-legal base tag h .multiple)) n)
 
 -- where an entry can stand there is a level
 placed-level : (leaf : Bool) (l : ℤ) (global : Bool) → isPlaced leaf l global ≡ true → isLevel l ≡ true
@@ -101,3 +90,63 @@ kept base tag k =
     all true true hp hc hl hs hm hw = simp (hp, hc, hl, hs, hm, hw)
     all true false hp hc hl hs hm hw = simp (hp, hc, hl, hs, hm, hw)
     all false r hp hc hl hs hm hw = simp (hp, hc)
+
+-- a slot that breaks one of the rules that are left reads as empty
+pub rest-empty : (base tag : ℕ) → isRest base tag ≡ false → isEntry base tag ≡ false
+unfolding isRest entryAt
+rest-empty base tag n =
+    not-so (isEntry base tag)
+    (λ (h : isEntry base tag ≡ true).
+    let k = entry-legal base tag h in
+    let all : isRest base tag ≡ true =
+    simp (
+      lt-ltb tag (2 ^ 54) (entry-low base tag h),
+      le-leb (spanOf (entryAt 0 tag)) 54 (span-most _ _ _ (k .span)),
+      eq-eqb (base % 2 ^ spanOf (entryAt 0 tag)) 0 (k .multiple),
+      k .placed,
+      k .asids,
+      k .reach,
+    ) in
+    clash all n)
+
+-- one that keeps them, with an entry's layout number and granule, is an entry exactly if an entry can have its company
+pub rest-company : (base tag : ℕ) → tag % 2 ^ 4 ≡ layout → 1 ≤ bits 27 26 tag → isRest base tag ≡ true → isCompany (companyAt tag) ≡ isEntry base tag
+unfolding isRest
+rest-company base tag whole granule h5 = go (isCompany (companyAt tag)) refl
+  where
+    a1 : Bool
+    a1 = ltb tag (2 ^ 54)
+
+    a2 : Bool
+    a2 = leb (spanOf (entryAt 0 tag)) 54
+
+    a3 : Bool
+    a3 = eqb (base % 2 ^ spanOf (entryAt 0 tag)) 0
+
+    a4 : Bool
+    a4 = isPlaced (entryAt 0 tag .leaf) (entryAt 0 tag .level) (entryAt 0 tag .global)
+
+    go : (b : Bool) → isCompany (companyAt tag) ≡ b → b ≡ isEntry base tag
+    go true e =
+        let h4 = and-0 (a1 && a2 && a3 && a4) (isReach base tag) h5 in
+        let h3 = and-0 (a1 && a2 && a3) a4 h4 in
+        let h2 = and-0 (a1 && a2) a3 h3 in
+        let rules : Kept base tag = record {
+          whole = whole;
+          low = ltb-true tag (2 ^ 54) (and-0 a1 a2 h2);
+          granule = granule;
+          span = leb-true (spanOf (entryAt 0 tag)) 54 (and-1 a1 a2 h2);
+          company = e;
+          placed = and-1 (a1 && a2 && a3) a4 h4;
+          multiple = and-1 (a1 && a2) a3 h3;
+        } in
+        sym (kept base tag rules ∙ and-1 (a1 && a2 && a3 && a4) (isReach base tag) h5)
+    go false e = sym (no-company base tag e)
+
+-- and where all three are an entry's, they are what is left to test
+pub rest-entry : (base tag : ℕ) → tag % 2 ^ 4 ≡ layout → 1 ≤ bits 27 26 tag → isCompany (companyAt tag) ≡ true → isRest base tag ≡ isEntry base tag
+rest-entry base tag whole granule company = go (isRest base tag) refl
+  where
+    go : (b : Bool) → isRest base tag ≡ b → b ≡ isEntry base tag
+    go true e = sym company ∙ rest-company base tag whole granule e
+    go false e = sym (rest-empty base tag e)

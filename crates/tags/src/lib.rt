@@ -10,7 +10,7 @@ pub use number::security_at;
 pub use number::security_number;
 pub use slot::entry_at;
 pub use slot::is_entry;
-pub use slot::is_entry_of;
+pub use slot::is_rest;
 pub use slot::span_at;
 pub use tag::company_tag;
 pub use tag::same_company;

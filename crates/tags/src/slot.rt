@@ -1,12 +1,8 @@
 // What a slot's base and tag read as.
-ghost use Prim.Native.Nat.{_%_, _^_, _≤_};
-ghost use mathlib.Core.Bool.{true, not, _&&_, _||_};
 ghost use mathlib.Core.Path.{_≡_};
-ghost use lib.Dec.{eqb};
-ghost use Rattle.laws.specs.Bits.{bits};
-ghost use Rattle.laws.specs.Mask.{bitOf};
-ghost use Rattle.machine.specs.Entry.{isCompany, hasAsids, inReach, spanOf};
-ghost use Rattle.machine.specs.Tag.{layout, companyAt, entryAt, isEntry};
+ghost use Rattle.machine.specs.Entry.{isCompany, spanOf};
+ghost use Rattle.machine.specs.Tag.{companyAt, entryAt, isEntry};
+ghost use Rattle.tags.specs.Rest.{isReach, isRest};
 use crate::number::level_at;
 use crate::number::regime_at;
 use crate::number::security_at;
@@ -84,7 +80,7 @@ fn is_company_at(tag: u64) -> bool
 
 // The base is in reach of the tag's company, which has no ASID and no global flag where there are none.
 fn is_reach_at(base: u64, tag: u64) -> bool
-    ensures { λ r. ⌜ r ≡ ((hasAsids (companyAt tag) || (eqb (bits 43 28 tag) 0 && not (bitOf tag 44))) && inReach (companyAt tag) base) ⌝ }
+    ensures { λ r. ⌜ r ≡ isReach base tag ⌝ }
 {
     // stage 1 of EL1&0 or EL2&0, which are regimes 0 and 1
     let two = (tag / 0x20 % 2 == 0) & (tag / 0x1000000 % 2 == 0);
@@ -104,19 +100,18 @@ pub fn is_entry(base: u64, tag: u64) -> bool
     if tag % 16 != 1 {
         return false;
     }
+    if !is_rest(base, tag) {
+        return false;
+    }
     if tag / 0x4000000 % 4 == 0 {
         return false;
     }
-    if !is_company_at(tag) {
-        return false;
-    }
-    is_entry_of(base, tag)
+    is_company_at(tag)
 }
 
 // What is left to test of a slot whose layout number, granule and company are an entry's, as they are where its lower part is a key.
-pub fn is_entry_of(base: u64, tag: u64) -> bool
-    requires { ⌜ (tag % 2 ^ 4 ≡ layout) × (1 ≤ bits 27 26 tag) × (isCompany (companyAt tag) ≡ true) ⌝ }
-    ensures { λ r. ⌜ r ≡ isEntry base tag ⌝ }
+pub fn is_rest(base: u64, tag: u64) -> bool
+    ensures { λ r. ⌜ r ≡ isRest base tag ⌝ }
 {
     if 0x40000000000000 <= tag {
         return false;

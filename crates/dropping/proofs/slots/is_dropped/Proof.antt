@@ -13,6 +13,7 @@ use Rattle.dropping.proofs.Apart.{drop-above, drop-below, low-met}
 use Rattle.dropping.proofs.Keyed.{keyed}
 use Rattle.dropping.proofs.slots.is_dropped.Statement.{statement}
 use Rattle.dropping.proofs.slots.is_dropped.Tie as tie
+use Rattle.tags.proofs.Parts.{rest-empty, rest-entry}
 
 returns : tie.Need-returns
 returns c = let a = c .before .before .args in sym (drop-above (a .work) (a .base) (a .tag) 0 (c .if1 .taken))
@@ -30,16 +31,13 @@ returns-2 c =
     let own = p .0 .3 (a .tag / 2 ^ 45 % 16) (mod-lt (a .tag / 2 ^ 45) (omega arith)) in
     sym (drop-below (a .work) (a .base) (a .tag) 0 (p .0 .0) (p .0 .1) (p .1 .1) (omega (arith, own, c .if2 .taken)))
 
-is-entry-of-requires : tie.Need-is-entry-of-requires
-is-entry-of-requires c κs =
-    let a = c .before .before .before .before .args in
-    let p = c .before .before .before .before .pre in
-    keyed (a .work) (a .tag) (p .0 .0) (p .0 .1) (p .0 .2) (p .1 .0) (p .1 .1) (p .1 .2)
+is-rest-requires : tie.Need-is-rest-requires
+is-rest-requires c κs = search needs
 
 returns-3 : tie.Need-returns-3
 returns-3 c =
     let a = c .before .before .before .before .before .before .args in
-    sym (drop-empty (a .work) (a .base) (a .tag) 0 (sym (c .before .is-entry-of .ensures) ∙ not-true _ (c .if3 .taken)))
+    sym (drop-empty (a .work) (a .base) (a .tag) 0 (rest-empty (a .base) (a .tag) (sym (c .before .is-rest .ensures) ∙ not-true _ (c .if3 .taken))))
 
 entry-at-requires : tie.Need-entry-at-requires
 entry-at-requires c κs = search needs
@@ -48,7 +46,8 @@ goes-requires : tie.Need-goes-requires
 goes-requires c κs =
     let a = c .before .before .before .before .before .before .before .args in
     let p = c .before .before .before .before .before .before .before .pre in
-    let h = sym (c .before .before .is-entry-of .ensures) ∙ not-false _ (c .before .if3 .left) in
+    let k = keyed (a .work) (a .tag) (p .0 .0) (p .0 .1) (p .0 .2) (p .1 .0) (p .1 .1) (p .1 .2) in
+    let h = sym (rest-entry (a .base) (a .tag) (k .0) (k .1) (k .2)) ∙ sym (c .before .before .is-rest .ensures) ∙ not-false _ (c .before .if3 .left) in
     let e = c .entry-at .ensures in
     let own = drop-own (a .work) (a .base) (a .tag) h (p .0 .0) (p .0 .1) (p .0 .2) (p .1 .1) in
     let low = p .0 .3 (a .tag / 2 ^ 45 % 16) (mod-lt (a .tag / 2 ^ 45) (omega arith)) in
@@ -58,7 +57,9 @@ goes-requires c κs =
 returns-4 : tie.Need-returns-4
 returns-4 c =
     let a = c .before .before .before .before .before .before .before .before .args in
-    let h = sym (c .before .before .before .is-entry-of .ensures) ∙ not-false _ (c .before .before .if3 .left) in
+    let p = c .before .before .before .before .before .before .before .before .pre in
+    let k = keyed (a .work) (a .tag) (p .0 .0) (p .0 .1) (p .0 .2) (p .1 .0) (p .1 .1) (p .1 .2) in
+    let h = sym (rest-entry (a .base) (a .tag) (k .0) (k .1) (k .2)) ∙ sym (c .before .before .before .is-rest .ensures) ∙ not-false _ (c .before .before .if3 .left) in
     c .goes .ensures ∙ ap (goes (a .work)) (c .before .entry-at .ensures) ∙ sym (drop-entry (a .work) (a .base) (a .tag) 0 h)
 
 pub is-dropped-spec : {M : Type 1} → statement M
@@ -69,7 +70,7 @@ is-dropped-spec =
     mul-if2
     element-copy-out-if2
     returns-2
-    is-entry-of-requires
+    is-rest-requires
     returns-3
     entry-at-requires
     goes-requires
