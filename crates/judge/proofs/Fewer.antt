@@ -2,8 +2,8 @@
 use Prim.Native.Nat.{ℕ, zero, suc, _+_, _*_, _^_, _<_, _≤_}
 use mathlib.Core.Bool.{Bool, true, false, not, _&&_, _||_}
 use mathlib.Core.List.{List}
-use mathlib.Core.Logic.{_⊎_, inl, inr}
-use mathlib.Core.Path.{_≡_, refl, sym, ap, ap₂, subst, _∙_}
+use mathlib.Core.Logic.{inl, inr}
+use mathlib.Core.Path.{_≡_, refl, sym, ap, ap₂, _∙_}
 use native.Mathlib.Decide.{ℕ-discrete}
 use native.Mathlib.Omega.{arith}
 use Rattle.laws.proofs.Every.{at}
@@ -11,7 +11,7 @@ use Rattle.laws.proofs.Mask.{mask-bit}
 use Rattle.laws.proofs.Truth.{and-0, and-1, clash}
 use Rattle.laws.specs.Every.{every, any}
 use Rattle.laws.specs.Mask.{bitOf}
-use Rattle.machine.specs.Goes.{goes, isReached}
+use Rattle.machine.specs.Goes.{goes}
 use Rattle.machine.specs.Judge.{leafAt, levelAt}
 use Rattle.machine.specs.declared.entry.Entry.{Entry}
 use Rattle.machine.specs.declared.judge.Judged.{Judged}

@@ -1,6 +1,6 @@
 -- `dropping::slots::is_dropped` meets its contract.
 use Prim.Native.Nat.{_/_, _%_, _^_}
-use mathlib.Core.Path.{sym, ap, subst, _∙_}
+use mathlib.Core.Path.{sym, ap, _∙_}
 use native.Mathlib.Nat.{mod-lt}
 use native.Mathlib.Omega.{arith}
 use borrow.Author.Needs.{needs}

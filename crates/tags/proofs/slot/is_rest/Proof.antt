@@ -1,14 +1,13 @@
 -- `tags::slot::is_rest` meets its contract.
 use Prim.Native.Nat.{ℕ, _%_, _^_}
 use mathlib.Core.Path.{sym, ap, _∙_}
-use native.Mathlib.Omega.{arith}
 use lib.Dec.{eqb, leb}
 use lib.IntN.{ℤ}
 use mir.Syntax.{w8}
 use mir.ValLaws.{toZ-ofZ}
 use borrow.Author.Needs.{needs}
 use borrow.Author.Tests.{not-true, not-false, le-ltb, lt-ltb, le-leb, lt-leb}
-use Rattle.machine.specs.Entry.{isPlaced, spanOf}
+use Rattle.machine.specs.Entry.{isPlaced}
 use Rattle.machine.specs.Tag.{entryAt}
 use Rattle.tags.proofs.slot.is_rest.Statement.{statement}
 use Rattle.tags.proofs.slot.is_rest.Tie as tie
