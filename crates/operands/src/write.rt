@@ -2,7 +2,7 @@
 ghost use Prim.Native.Nat.{_+_, _*_, _^_, _≤_, _<_};
 ghost use mathlib.Core.Bool.{true, cond};
 ghost use mathlib.Core.Path.{_≡_};
-ghost use Rattle.machine.specs.Operand.{fits, isShown, isWritable, xtOf, xt2Of, wordsOf};
+ghost use Rattle.machine.specs.Operand.{fits, fieldOf, isWritable, xtOf, wordsOf};
 use crate::base::address_of;
 use crate::base::field_of;
 use crate::form::has_asid;
@@ -24,29 +24,16 @@ fn ns_fits(has: bool, ns: u64) -> bool
     if has { ns < 2 } else { ns == 0 }
 }
 
-fn is_shown(told: Told, tg: u64, base: u64) -> bool
-    requires { ⌜ (1 ≤ tg) × (tg < 4) ⌝ }
-    ensures { λ r. ⌜ r ≡ isShown told tg base ⌝ }
-{
-    let field = field_of(told, tg, base);
-    address_of(told, tg, field) == base
-}
-
-fn is_writable(told: Told, o: Operand) -> bool
+// `field` is the base's field, worked out once.
+fn is_writable(told: Told, o: Operand, field: u64) -> bool
+    requires { ⌜ (1 ≤ o .tg) × (o .tg < 4) × (field ≡ fieldOf told (o .tg) (o .base)) × (field < 2 ^ cond (told .tlbip) 44 37) ⌝ }
     ensures { λ r. ⌜ r ≡ isWritable told o ⌝ }
 {
-    let tg = o.tg;
-    if 4 <= tg {
-        return false;
-    }
-    if tg == 0 {
-        return false;
-    }
     let form = told.form;
     let asid = asid_fits(has_asid(form), o.asid);
     let ns = ns_fits(has_ns(form), o.ns);
-    let zero_ttl = reads_as_zero(told.lpa2, tg, o.ttl);
-    let shown = is_shown(told, tg, o.base);
+    let zero_ttl = reads_as_zero(told.lpa2, o.tg, o.ttl);
+    let shown = address_of(told, o.tg, field) == o.base;
     (o.scale < 4) & (o.num < 32) & (o.ttl < 4) & asid & ns & !zero_ttl & shown
 }
 
@@ -70,32 +57,34 @@ fn low_of(tlbip: bool, field: u64) -> u64
     if tlbip { 0 } else { field }
 }
 
-fn xt_of(told: Told, o: Operand) -> u64
-    requires { ⌜ isWritable told o ≡ true ⌝ }
+fn xt_of(told: Told, o: Operand, field: u64) -> u64
+    requires { ⌜ (isWritable told o ≡ true) × (field ≡ fieldOf told (o .tg) (o .base)) × (field < 2 ^ cond (told .tlbip) 44 37) ⌝ }
     ensures { λ r. ⌜ r ≡ xtOf told o ⌝ }
 {
-    let field = field_of(told, o.tg, o.base);
     let low = low_of(told.tlbip, field);
     joined(o.ns, o.asid, o.tg, o.scale, o.num, o.ttl, low)
 }
 
-fn xt2_of(told: Told, o: Operand) -> u64
-    requires { ⌜ isWritable told o ≡ true ⌝ }
-    ensures { λ r. ⌜ r ≡ xt2Of told o ⌝ }
+fn xt2_of(tlbip: bool, field: u64) -> u64
+    ensures { λ r. ⌜ r ≡ cond tlbip field 0 ⌝ }
 {
-    if told.tlbip {
-        field_of(told, o.tg, o.base)
-    } else {
-        0
-    }
+    if tlbip { field } else { 0 }
 }
 
 pub fn write_operand(told: Told, o: Operand) -> OperandWritten
     ensures { λ r. ⌜ r ≡ wordsOf told o ⌝ }
 {
-    if is_writable(told, o) {
-        let xt = xt_of(told, o);
-        let xt2 = xt2_of(told, o);
+    let tg = o.tg;
+    if 4 <= tg {
+        return OperandWritten::Refused;
+    }
+    if tg == 0 {
+        return OperandWritten::Refused;
+    }
+    let field = field_of(told, tg, o.base);
+    if is_writable(told, o, field) {
+        let xt = xt_of(told, o, field);
+        let xt2 = xt2_of(told.tlbip, field);
         OperandWritten::Words(xt, xt2)
     } else {
         OperandWritten::Refused
