@@ -2,8 +2,8 @@
 use Prim.Native.Nat.{ℕ, _+_, _*_, _/_, _^_, _<_, _≤_}
 use mathlib.Core.Bool.{true, false}
 use mathlib.Core.List.{List}
-use mathlib.Core.Path.{_≡_, refl, sym, ap₂, subst, _∙_}
-use native.Mathlib.Decide.{ℕ-discrete}
+use mathlib.Core.Path.{_≡_, refl, sym, ap, ap₂, subst, _∙_}
+use native.Mathlib.Decide.{ℕ-discrete, decLt}
 use native.Mathlib.Nat.{div-lt-iff-lt-mul, le-div-iff-mul-le}
 use native.Mathlib.Omega.{arith}
 use lib.Dec.{eqb, leb}
@@ -11,6 +11,7 @@ use lib.Pow.{pow-add, pow-mono, pow-pos}
 use borrow.Author.Tests.{eqb-true, leb-true}
 use Rattle.laws.proofs.Any.{few}
 use Rattle.laws.proofs.Truth.{and-1, not-so, clash}
+use Rattle.laws.specs.Mask.{bitOf}
 use Rattle.machine.proofs.Going.{going}
 use Rattle.machine.proofs.Spans.{span-most, meets-number, number-meets}
 use Rattle.machine.proofs.Tags.{legal}
@@ -21,7 +22,7 @@ use Rattle.machine.specs.Span.{meetsRange}
 use Rattle.machine.specs.declared.entry.Entry.{Entry}
 use Rattle.machine.specs.declared.judge.Target.{Target}
 use Rattle.machine.specs.declared.work.Work.{Work}
-use Rattle.coverage.specs.Asids.{Free, Named}
+use Rattle.coverage.specs.Asids.{LowestOut, Free, NamedWith, Named, NamedBy}
 use Rattle.steps.specs.Steps.{workAt, usedBy}
 
 -- an entry of another granule stays
@@ -86,23 +87,67 @@ number-most x k l h =
     div-lt-iff-lt-mul {x = x} {y = 2 ^ 52} (pow-pos k) .1 (omega (arith, s, e))
 
 -- the ASID of the entry that is looked for, in each of its cases
-pub named-own : (t : Target) (works : List Work) (n : ℕ) → t .one ≡ true → Named t works n (t .asid)
-named-own t works n h = record {
+pub named-own : (t : Target) (IsFree : ℕ → Type 0) → t .one ≡ true → NamedWith t IsFree (t .asid)
+named-own t IsFree h = record {
   own = λ (i : t .one ≡ true). refl;
   free = λ (i : t .one ≡ false) (a : hasAsids (t .company) ≡ true). clash h i;
   none = λ (i : t .one ≡ false) (a : hasAsids (t .company) ≡ false). clash h i;
 }
 
-pub named-free : (t : Target) (works : List Work) (n a : ℕ) → t .one ≡ false → hasAsids (t .company) ≡ true → Free works n a → Named t works n a
-named-free t works n a h k f = record {
+pub named-free : (t : Target) (IsFree : ℕ → Type 0) (a : ℕ) → t .one ≡ false → hasAsids (t .company) ≡ true → IsFree a → NamedWith t IsFree a
+named-free t IsFree a h k f = record {
   own = λ (i : t .one ≡ true). clash i h;
   free = λ (i : t .one ≡ false) (j : hasAsids (t .company) ≡ true). f;
   none = λ (i : t .one ≡ false) (j : hasAsids (t .company) ≡ false). clash k j;
 }
 
-pub named-none : (t : Target) (works : List Work) (n : ℕ) → t .one ≡ false → hasAsids (t .company) ≡ false → Named t works n 0
-named-none t works n h k = record {
+pub named-none : (t : Target) (IsFree : ℕ → Type 0) → t .one ≡ false → hasAsids (t .company) ≡ false → NamedWith t IsFree 0
+named-none t IsFree h k = record {
   own = λ (i : t .one ≡ true). clash i h;
   free = λ (i : t .one ≡ false) (j : hasAsids (t .company) ≡ true). clash j k;
   none = λ (i : t .one ≡ false) (j : hasAsids (t .company) ≡ false). refl;
+}
+
+-- the numbers below a are in a set: at the start of a loop that looks for one that is not, at a turn and at its two ends
+abbrev pub InBelow : ℕ → ℕ → Type 0
+InBelow used a = (b : ℕ) → b < a → bitOf used b ≡ true
+
+pub in-start : (used : ℕ) → InBelow used 0
+in-start used b l = absurd (let z : ⊥ = omega arith in z)
+
+pub in-more : (used a : ℕ) → InBelow used a → bitOf used a ≡ true → InBelow used (a + 1)
+in-more used a h e b l = go (ℕ-discrete b a)
+  where
+    go : Dec (b ≡ a) → bitOf used b ≡ true
+    go (yes i) = ap (bitOf used) i ∙ e
+    go (no d) = h b (omega arith)
+
+pub out-here : (used a : ℕ) → a < 16 → InBelow used a → bitOf used a ≡ false → LowestOut used a
+out-here used a l h e = record { most = omega arith; lower = h; here = λ (m : a < 16). e }
+
+pub out-end : (used a : ℕ) → 16 ≤ a → InBelow used a → LowestOut used 16
+out-end used a l h = record {
+  most = omega arith;
+  lower = λ (b : ℕ) (m : b < 16). h b (omega arith);
+  here = λ (m : 16 < 16). absurd (let z : ⊥ = omega arith in z);
+}
+
+-- the set of the ASIDs below 16 that a few steps use names the one that no step uses
+lowest-free : (works : List Work) (n used a : ℕ) → n ≤ 16 → ((b : ℕ) → b < 16 → bitOf used b ≡ usedBy works n b) → LowestOut used a → Free works n a
+lowest-free works n used a most same h = used-end works n a lower (go (decLt a 16))
+  where
+    lower : Used works n a
+    lower b l = let m = h .most in sym (same b (omega arith)) ∙ h .lower b l
+
+    go : Dec (a < 16) → usedBy works n a ≡ false
+    go (yes l) = sym (same a l) ∙ h .here l
+    go (no l) =
+        not-so (usedBy works n a) (λ (e : usedBy works n a ≡ true). let few = used-few works n (a + 1) (used-more works n a lower e) in omega arith)
+
+pub named-by : (t : Target) (works : List Work) (n used a : ℕ) → n ≤ 16 → ((b : ℕ) → b < 16 → bitOf used b ≡ usedBy works n b) → NamedBy t used a →
+    Named t works n a
+named-by t works n used a most same h = record {
+  own = h .own;
+  free = λ (i : t .one ≡ false) (j : hasAsids (t .company) ≡ true). lowest-free works n used a most same (h .free i j);
+  none = h .none;
 }

@@ -1,48 +1,31 @@
 // The ASID of the entry that a search looks for.
-ghost use Prim.Native.Nat.{_≤_};
-ghost use mathlib.Core.Path.{_≡_};
-ghost use Rattle.steps.specs.Steps.{usedBy};
-ghost use Rattle.coverage.specs.Asids.{Free, Named};
+ghost use Rattle.coverage.specs.Asids.{LowestOut, NamedBy};
 use entries::has_asids;
 use machine::Target;
-use machine::Work;
+use spans::bit_of;
 
-// Whether one of the steps uses an ASID.
-fn is_used(works: [Work; 16], n: usize, asid: u64) -> bool
-    requires { ⌜ n ≤ 16 ⌝ }
-    ensures { λ r. ⌜ r ≡ usedBy works n asid ⌝ }
+// The lowest number below 16 that is not in a set, or 16: sixteen steps use sixteen ASIDs at most.
+fn free_asid(used: u64) -> u16
+    ensures { λ r. ⌜ LowestOut used r ⌝ }
 {
-    for i in 0..n {
-        let work = works[i];
-        if work.one & (work.asid == asid) {
-            return true;
+    for asid in 0..16u16 {
+        if !bit_of(used, asid as u64) {
+            return asid;
         }
     }
-    false
+    16
 }
 
-// The lowest ASID that no step uses: one of the first seventeen.
-fn free_asid(works: [Work; 16], n: usize) -> u16
-    requires { ⌜ n ≤ 16 ⌝ }
-    ensures { λ r. ⌜ Free works n r ⌝ }
-{
-    let mut asid = 0;
-    while is_used(works, n, asid as u64) {
-        asid += 1;
-    }
-    asid
-}
-
-pub fn named_asid(works: [Work; 16], n: usize, target: Target) -> u16
-    requires { ⌜ n ≤ 16 ⌝ }
-    ensures { λ r. ⌜ Named target works n r ⌝ }
+// `used` has the ASIDs below 16 that a step uses.
+pub fn named_asid(used: u64, target: Target) -> u16
+    ensures { λ r. ⌜ NamedBy target used r ⌝ }
 {
     if target.one {
         return target.asid;
     }
     let company = target.company;
     if has_asids(company) {
-        free_asid(works, n)
+        free_asid(used)
     } else {
         0
     }

@@ -246,9 +246,9 @@ named-named t works n f l = go (t .one) refl (hasAsids (t .company)) refl
 
     go : (b : Bool) → t .one ≡ b → (c : Bool) → hasAsids (t .company) ≡ c →
         Named t works n (cond b (t .asid) (cond c (freeAsid works n 17 0) 0)) × (cond b (t .asid) (cond c (freeAsid works n 17 0) 0) < 2 ^ 16)
-    go true e c h = (named-own t works n e, f .asid)
-    go false e true h = (named-free t works n (freeAsid works n 17 0) e h free, omega (arith, used-few works n (freeAsid works n 17 0) (free .lowest)))
-    go false e false h = (named-none t works n e h, omega arith)
+    go true e c h = (named-own t (Free works n) e, f .asid)
+    go false e true h = (named-free t (Free works n) (freeAsid works n 17 0) e h free, omega (arith, used-few works n (freeAsid works n 17 0) (free .lowest)))
+    go false e false h = (named-none t (Free works n) e h, omega arith)
 
 -- it gives the verdict
 pub judged-verdict : (st : State) (t : Target) (steps : List ℕ) → Fits t → Verdict st t steps (judgedOf st t steps)

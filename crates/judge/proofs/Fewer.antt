@@ -6,6 +6,7 @@ use mathlib.Core.Logic.{inl, inr}
 use mathlib.Core.Path.{_≡_, refl, sym, ap, ap₂, _∙_}
 use native.Mathlib.Decide.{ℕ-discrete}
 use native.Mathlib.Omega.{arith}
+use Rattle.laws.proofs.Any.{any-same}
 use Rattle.laws.proofs.Every.{at}
 use Rattle.laws.proofs.Mask.{mask-bit}
 use Rattle.laws.proofs.Truth.{and-0, and-1, clash}
@@ -40,12 +41,6 @@ lowest f (suc n) h = go (lowest f n) (any f n) refl (f n) refl h
         let l = below e in record { place = l .place; within = omega (arith, l .within); holds = l .holds; first = l .first }
     go below false e true d i = record { place = n; within = omega arith; holds = d; first = e }
     go below false e false d i = clash i refl
-
--- tests that agree at each number below n
-any-same : (f g : ℕ → Bool) (n : ℕ) → ((k : ℕ) → k < n → f k ≡ g k) → any f n ≡ any g n
-unfolding any
-any-same f g zero h = refl
-any-same f g (suc n) h = ap₂ _||_ (h n (omega arith)) (any-same f g n (λ (k : ℕ) (l : k < n). h k (omega arith)))
 
 module _
     (t : Target)

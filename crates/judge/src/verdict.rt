@@ -9,10 +9,14 @@ use machine::Judged;
 use machine::State;
 use machine::Target;
 use processor::is_bad;
-use steps::check;
-use steps::works_of;
+use steps::no_work;
+use steps::unchecked;
+use steps::with_step;
+use steps::work_in;
 use tables::is_list;
 use targets::is_target;
+use words::OperationWord;
+use works::resolve;
 
 pub fn judge(state: State, target: Target, list: &[u64]) -> Judged
     ensures { λ r. ⌜ Verdict state target (now (list .entry)) r ⌝ }
@@ -30,22 +34,31 @@ pub fn judge(state: State, target: Target, list: &[u64]) -> Judged
     by_steps(state, target, list)
 }
 
-// What judge answers where shape, state and target are sound.
+// What judge answers where shape, state and target are sound. The works stay where they are made: each function that is given them copies
+// all sixteen.
 fn by_steps(state: State, target: Target, list: &[u64]) -> Judged
     requires { ⌜ Sound state target (now list) ⌝ }
     ensures { λ r. ⌜ Verdict state target (now (list .entry)) r ⌝ }
 {
     let n = list.len() / 3;
-    let works = works_of(list, state);
     let company = target.company;
-    let checked = check(works, n, company);
+    let blank = no_work();
+    let mut works = [blank; 16];
+    let mut checked = unchecked(n);
+    for i in 0..n {
+        let read = OperationWord { bits: list[3 * i] }.read();
+        let resolved = resolve(state, read, list[3 * i + 1], list[3 * i + 2]);
+        let work = work_in(resolved);
+        works[i] = work;
+        checked = with_step(checked, company, n, i, work);
+    }
     if checked.refused < n {
         return Judged::Refused(checked.refused);
     }
     if checked.outside < n {
         return Judged::Outside(checked.outside);
     }
-    let asid = named_asid(works, n, target);
+    let asid = named_asid(checked.used, target);
     let processors = searched_of(target.processors, checked.common);
     let fewer = on_processors(target, processors);
     search(works, n, fewer, asid)

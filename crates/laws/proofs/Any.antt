@@ -2,7 +2,7 @@
 use Prim.Native.Nat.{ℕ, zero, suc, _+_, _<_, _≤_}
 use mathlib.Core.Bool.{Bool, true, false, cond, _||_}
 use mathlib.Core.List.{List}
-use mathlib.Core.Path.{_≡_, refl, ap, _∙_}
+use mathlib.Core.Path.{_≡_, refl, ap, ap₂, _∙_}
 use native.Mathlib.Decide.{ℕ-discrete}
 use native.Mathlib.Nat.{not-suc-le-zero}
 use native.Mathlib.Numerals.{add-one}
@@ -66,6 +66,20 @@ any-start f = refl
 pub any-more : (f : ℕ → Bool) (n : ℕ) → f n ≡ false → any f n ≡ false → any f (n + 1) ≡ false
 unfolding any
 any-more f n p q = simp (add-one, p, q)
+
+-- A loop that keeps whether it has met one: at a turn and at its end.
+pub any-turn : (f : ℕ → Bool) (n : ℕ) (r b : Bool) → r ≡ f n → b ≡ any f n → (r || b) ≡ any f (n + 1)
+unfolding any
+any-turn f n r b p q = simp (add-one, p, q)
+
+pub any-end : (f : ℕ → Bool) (j n : ℕ) (b : Bool) → b ≡ any f j → j ≤ n → n ≤ j → b ≡ any f n
+any-end f j n b e k l = let i : j ≡ n = omega arith in e ∙ ap (any f) i
+
+-- tests that agree at each number below n
+pub any-same : (f g : ℕ → Bool) (n : ℕ) → ((k : ℕ) → k < n → f k ≡ g k) → any f n ≡ any g n
+unfolding any
+any-same f g zero h = refl
+any-same f g (suc n) h = ap₂ _||_ (h n (omega arith)) (any-same f g n (λ (k : ℕ) (l : k < n). h k (omega arith)))
 
 -- how many numbers below n the test holds at
 unfoldable many : (ℕ → Bool) → ℕ → ℕ

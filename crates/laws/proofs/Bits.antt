@@ -1,11 +1,14 @@
 -- A word by its bits, in parts, and masks of them.
-use Prim.Native.Nat.{ℕ, zero, suc, _+_, _*_, _/_, _%_, _^_, _<_, _≤_}
-use mathlib.Core.Bool.{Bool, true, false, cond, _&&_}
+use Prim.Native.Nat.{ℕ, zero, suc, _+_, _*_, _-_, _/_, _%_, _^_, _<_, _≤_, min, max}
+use mathlib.Core.Bool.{Bool, true, false, cond, _&&_, _||_}
 use mathlib.Core.Path.{_≡_, refl, sym, ap, ap₂, _∙_}
-use native.Mathlib.Nat.{pow-succ', mul-assoc, mod-lt}
+use native.Mathlib.Decide.{ℕ-discrete, decLt}
+use native.Mathlib.Nat.{pow-succ', mul-assoc, mod-lt, zero-min, div-eq-of-lt}
 use native.Mathlib.Omega.{arith}
+use lib.Bits.{bitAnd, bitOr, and-step, and-shr, or-step, or-shr}
 use lib.Dec.{eqb}
-use lib.Pow.{mod-pow-add, shr-shr, split}
+use lib.Pow.{mod-pow-add, shr-shr, shl-shr, pow-add, pow-lt, split}
+use borrow.Author.Tests.{eq-eqb, ne-eqb}
 use Rattle.laws.specs.Mask.{bitOf, maskFrom}
 
 -- the bits from l on are the next m, and those above them
@@ -85,3 +88,64 @@ mask-if x p n false = mask-within (λ (i : ℕ). bitOf x i && false) (λ (i : �
     zeros : (p n : ℕ) → maskFrom (λ i. false) p n ≡ 0
     zeros p zero = refl
     zeros p (suc n) = ap (λ (m : ℕ). 0 + 2 * m) (zeros (suc p) n)
+
+-- a bit that two numbers have in common
+pub and-bit : (a b p : ℕ) → bitOf (bitAnd a b) p ≡ (bitOf a p && bitOf b p)
+and-bit a b p =
+    let x = a / 2 ^ p in
+    let y = b / 2 ^ p in
+    ap (λ (m : ℕ). eqb (m % 2) 1) (and-shr a b p ∙ and-step x y)
+    ∙ last (bitAnd (x / 2) (y / 2)) (x % 2) (y % 2) (mod-lt x (omega arith)) (mod-lt y (omega arith))
+  where
+    last : (m u v : ℕ) → u < 2 → v < 2 → eqb ((m * 2 + min u v) % 2) 1 ≡ (eqb u 1 && eqb v 1)
+    last m zero v l k = let e : (m * 2 + 0) % 2 ≡ 0 = omega arith in simp (zero-min v, e)
+    last m (suc zero) zero l k = let e : (m * 2 + 0) % 2 ≡ 0 = omega arith in simp e
+    last m (suc zero) (suc zero) l k = let e : (m * 2 + 1) % 2 ≡ 1 = omega arith in simp e
+    last m (suc zero) (suc (suc v)) l k = absurd (omega arith)
+    last m (suc (suc u)) v l k = absurd (omega arith)
+
+-- a bit that one of two numbers has
+pub or-bit : (a b p : ℕ) → bitOf (bitOr a b) p ≡ (bitOf a p || bitOf b p)
+or-bit a b p =
+    let x = a / 2 ^ p in
+    let y = b / 2 ^ p in
+    ap (λ (m : ℕ). eqb (m % 2) 1) (or-shr a b p ∙ or-step x y)
+    ∙ last (bitOr (x / 2) (y / 2)) (x % 2) (y % 2) (mod-lt x (omega arith)) (mod-lt y (omega arith))
+  where
+    last : (m u v : ℕ) → u < 2 → v < 2 → eqb ((m * 2 + max u v) % 2) 1 ≡ (eqb u 1 || eqb v 1)
+    last m zero zero l k = let e : (m * 2 + 0) % 2 ≡ 0 = omega arith in simp e
+    last m zero (suc zero) l k = let e : (m * 2 + 1) % 2 ≡ 1 = omega arith in simp e
+    last m (suc zero) zero l k = let e : (m * 2 + 1) % 2 ≡ 1 = omega arith in simp e
+    last m (suc zero) (suc zero) l k = let e : (m * 2 + 1) % 2 ≡ 1 = omega arith in simp e
+    last m zero (suc (suc v)) l k = absurd (omega arith)
+    last m (suc zero) (suc (suc v)) l k = absurd (omega arith)
+    last m (suc (suc u)) v l k = absurd (omega arith)
+
+-- a power of 2 has one bit
+pub power-bit : (k p : ℕ) → bitOf (2 ^ k) p ≡ eqb k p
+power-bit k p = go (ℕ-discrete k p)
+  where
+    own : bitOf (2 ^ p) p ≡ true
+    own =
+        let e : 2 ^ p ≡ 1 * 2 ^ p = omega arith in
+        ap (λ (m : ℕ). eqb (m % 2) 1) (ap (λ (y : ℕ). y / 2 ^ p) e ∙ shl-shr 1 p)
+
+    above : k < p → bitOf (2 ^ k) p ≡ false
+    above l = ap (λ (m : ℕ). eqb (m % 2) 1) (div-eq-of-lt (pow-lt l))
+
+    under : p < k → bitOf (2 ^ k) p ≡ false
+    under l =
+        let j = k - p - 1 in
+        let e : k ≡ (j + 1) + p = omega arith in
+        let f : 2 ^ k ≡ 2 ^ (j + 1) * 2 ^ p = ap (λ (y : ℕ). 2 ^ y) e ∙ pow-add 2 (j + 1) p in
+        let g : 2 ^ k / 2 ^ p ≡ 2 ^ j * 2 = ap (λ (y : ℕ). y / 2 ^ p) f ∙ shl-shr (2 ^ (j + 1)) p ∙ pow-add 2 j 1 in
+        let h : 2 ^ j * 2 % 2 ≡ 0 = omega arith in
+        ap (λ (m : ℕ). eqb (m % 2) 1) g ∙ ap (λ (m : ℕ). eqb m 1) h
+
+    side : (k ≡ p → ⊥) → Dec (k < p) → bitOf (2 ^ k) p ≡ false
+    side d (yes l) = above l
+    side d (no l) = under (omega arith)
+
+    go : Dec (k ≡ p) → bitOf (2 ^ k) p ≡ eqb k p
+    go (yes e) = ap (λ (y : ℕ). bitOf (2 ^ y) p) e ∙ own ∙ sym (eq-eqb k p e)
+    go (no d) = side d (decLt k p) ∙ sym (ne-eqb k p d)

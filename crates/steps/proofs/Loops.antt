@@ -1,26 +1,29 @@
 -- Loops over the works of a list's steps.
-use Prim.Native.Nat.{ℕ, zero, suc, _+_, _*_, _/_, _%_, _^_, _<_, _≤_, min}
-use mathlib.Core.Bool.{Bool, true, false, cond, not, _&&_}
+use Prim.Native.Nat.{ℕ, _+_, _^_, _<_, _≤_}
+use mathlib.Core.Bool.{Bool, true, false, cond, not, _&&_, _||_, or-comm}
 use mathlib.Core.List.{List}
 use mathlib.Core.Path.{_≡_, refl, sym, ap, subst, _∙_}
 use native.Mathlib.Decide.{ℕ-discrete}
-use native.Mathlib.Nat.{mod-lt, zero-min}
 use native.Mathlib.Omega.{arith}
-use lib.Bits.{bitAnd, and-step, and-shr}
-use lib.Dec.{eqb}
+use lib.Bits.{bitAnd, bitOr}
+use lib.Dec.{eqb, ltb}
 use lib.ListN.{length, set}
 use lib.Seq.{getD-set-same, getD-set-other}
-use borrow.Author.Tests.{eqb-true, eq-eqb, not-true, not-false}
-use Rattle.laws.proofs.Every.{at, every-more, every-end}
+use borrow.Author.Tests.{eqb-true, eq-eqb, ne-eqb, ltb-false, not-true, not-false}
+use Rattle.laws.proofs.Any.{any-turn, any-end, any-same}
+use Rattle.laws.proofs.Bits.{and-bit, or-bit, power-bit}
+use Rattle.laws.proofs.Every.{at, every-more, every-end, every-same}
 use Rattle.laws.proofs.Truth.{clash}
-use Rattle.laws.specs.Every.{every}
+use Rattle.laws.specs.Every.{every, any}
 use Rattle.laws.specs.Mask.{bitOf}
 use Rattle.laws.specs.Slots.{slots}
+use Rattle.machine.specs.Judge.{holdsAsid}
 use Rattle.machine.specs.Table.{sameCompany}
 use Rattle.machine.specs.declared.entry.Company.{Company}
 use Rattle.machine.specs.declared.processor.State.{State}
 use Rattle.machine.specs.declared.work.Work.{Work}
-use Rattle.steps.specs.Steps.{noWork, workIn, workAt, stepAt, AreSteps, FirstNone, FirstOther}
+use Rattle.steps.specs.Steps.{noWork, workIn, workAt, stepAt, AreSteps, Checks, asidBit, unchecked, withStep}
+use Rattle.steps.specs.declared.checks.Checked.{Checked}
 
 -- A pass over the numbers below n that keeps the first with a property, or n: at its start, at a turn and at its end.
 pub record FirstBelow (f : ℕ → Bool) (n i r : ℕ) : Type 0 where
@@ -60,68 +63,96 @@ first-more f n i r l h = go (f i) refl (eqb r n) refl
         kept (λ (m : r < n) (k : i < r). absurd (let z = h .here m in omega (arith, z .0))) (λ (same : r ≡ n). clash (eq-eqb r n same) d)
     go false e b d = kept (λ (m : r < n) (k : i < r). e) (λ (same : r ≡ n). e)
 
--- the tests that are passed: there is no work; the work is of another company
-abbrev pub isNone : List Work → ℕ → Bool
-isNone works i = eqb (workAt works i .granule) 0
+-- What was said of the works of the steps below i, of n.
+pub record Checking (c : Company) (w : ℕ → Work) (n i : ℕ) (r : Checked) : Type 0 where
+  pub refused : FirstBelow (λ (x : ℕ). eqb (w x .granule) 0) n i (r .refused)
+  pub outside : FirstBelow (λ (x : ℕ). not (sameCompany (w x .company) c)) n i (r .outside)
+  pub common : (p : ℕ) → p < 8 → bitOf (r .common) p ≡ every (λ (x : ℕ). bitOf (w x .reached) p) i
+  pub used : (a : ℕ) → a < 16 → bitOf (r .used) a ≡ any (λ (x : ℕ). holdsAsid a (w x)) i
 
-abbrev pub isOther : Company → List Work → ℕ → Bool
-isOther c works i = not (sameCompany (workAt works i .company) c)
-
-pub first-none : (works : List Work) (n i r : ℕ) → n ≤ i → FirstBelow (isNone works) n i r → FirstNone works n r
-first-none works n i r l h = record {
-  most = h .most;
-  lower = λ (x : ℕ) (m : x < r) (e : workAt works x .granule ≡ 0). clash (eq-eqb (workAt works x .granule) 0 e) (h .lower x (omega (arith, h .most)) m);
-  here = λ (m : r < n). eqb-true (workAt works r .granule) 0 (h .here m .1);
+pub checking-start : (c : Company) (w : ℕ → Work) (n : ℕ) → Checking c w n 0 (unchecked n)
+unfolding every any
+checking-start c w n = record {
+  refused = first-start (λ (x : ℕ). eqb (w x .granule) 0) n;
+  outside = first-start (λ (x : ℕ). not (sameCompany (w x .company) c)) n;
+  common = at (bitOf 255) 8 refl;
+  used = λ (a : ℕ) (l : a < 16). not-true (bitOf 0 a) (at (λ (b : ℕ). not (bitOf 0 b)) 16 refl a l);
 }
 
-pub first-other : (c : Company) (works : List Work) (n i r : ℕ) → n ≤ i → FirstBelow (isOther c works) n i r → FirstOther c works n r
-first-other c works n i r l h = record {
-  most = h .most;
-  lower = λ (x : ℕ) (m : x < r). not-false (sameCompany (workAt works x .company) c) (h .lower x (omega (arith, h .most)) m);
-  here = λ (m : r < n). not-true (sameCompany (workAt works r .company) c) (h .here m .1);
-}
-
--- a bit that two numbers have in common
-pub and-bit : (a b p : ℕ) → bitOf (bitAnd a b) p ≡ (bitOf a p && bitOf b p)
-and-bit a b p =
-    let x = a / 2 ^ p in
-    let y = b / 2 ^ p in
-    ap (λ (m : ℕ). eqb (m % 2) 1) (and-shr a b p ∙ and-step x y)
-    ∙ last (bitAnd (x / 2) (y / 2)) (x % 2) (y % 2) (mod-lt x (omega arith)) (mod-lt y (omega arith))
-  where
-    last : (m u v : ℕ) → u < 2 → v < 2 → eqb ((m * 2 + min u v) % 2) 1 ≡ (eqb u 1 && eqb v 1)
-    last m zero v l k = let e : (m * 2 + 0) % 2 ≡ 0 = omega arith in simp (zero-min v, e)
-    last m (suc zero) zero l k = let e : (m * 2 + 0) % 2 ≡ 0 = omega arith in simp e
-    last m (suc zero) (suc zero) l k = let e : (m * 2 + 1) % 2 ≡ 1 = omega arith in simp e
-    last m (suc zero) (suc (suc v)) l k = absurd (omega arith)
-    last m (suc (suc u)) v l k = absurd (omega arith)
-
--- the processors that the works below i all reach
-abbrev pub Common : List Work → ℕ → ℕ → Type 0
-Common works i m = (p : ℕ) → p < 8 → bitOf m p ≡ every (λ (x : ℕ). bitOf (workAt works x .reached) p) i
-
-pub common-start : (works : List Work) → Common works 0 255
+-- the bit of a used ASID
+asid-bit : (one : Bool) (asid a : ℕ) → a < 16 → bitOf (asidBit one asid) a ≡ (one && eqb asid a)
 unfolding every
-common-start works p l = at (bitOf 255) 8 refl p l
+asid-bit one asid a l = go one (ltb asid 16) refl
+  where
+    none : bitOf 0 a ≡ false
+    none = not-true (bitOf 0 a) (at (λ (b : ℕ). not (bitOf 0 b)) 16 refl a l)
 
-pub common-more : (works : List Work) (i m : ℕ) → Common works i m → Common works (i + 1) (bitAnd (workAt works i .reached) m)
-common-more works i m h p l =
-    and-bit (workAt works i .reached) m p
-    ∙ every-more (λ (x : ℕ). bitOf (workAt works x .reached) p) i (bitOf (workAt works i .reached) p) (bitOf m p) refl (h p l)
+    go : (o b : Bool) → ltb asid 16 ≡ b → bitOf (cond (o && b) (2 ^ asid) 0) a ≡ (o && eqb asid a)
+    go true true e = power-bit asid a
+    go true false e = let m : 16 ≤ asid = ltb-false asid 16 e in none ∙ sym (ne-eqb asid a (λ (i : asid ≡ a). omega arith))
+    go false b e = none
 
-pub common-end : (works : List Work) (n i m : ℕ) → i ≤ n → n ≤ i → Common works i m → Common works n m
-common-end works n i m k l h p b = every-end (λ (x : ℕ). bitOf (workAt works x .reached) p) i n (bitOf m p) (h p b) k l
+pub checking-more : (c : Company) (w : ℕ → Work) (n i : ℕ) (v : Work) (r : Checked) → i < n → v ≡ w i → Checking c w n i r → Checking c w n (i + 1) (withStep r c n i v)
+checking-more c w n i v r l e h = subst (λ (x : Work). Checking c w n (i + 1) (withStep r c n i x)) (sym e) (record {
+  refused = first-more (λ (x : ℕ). eqb (w x .granule) 0) n i (r .refused) l (h .refused);
+  outside = first-more (λ (x : ℕ). not (sameCompany (w x .company) c)) n i (r .outside) l (h .outside);
+  common = λ (p : ℕ) (k : p < 8). and-bit (w i .reached) (r .common) p ∙ every-more (λ (x : ℕ). bitOf (w x .reached) p) i (bitOf (w i .reached) p) (bitOf (r .common) p) refl (h .common p k);
+  used = used;
+})
+  where
+    used : (a : ℕ) → a < 16 → bitOf (bitOr (r .used) (asidBit (w i .one) (w i .asid))) a ≡ any (λ (x : ℕ). holdsAsid a (w x)) (i + 1)
+    used a k =
+        or-bit (r .used) (asidBit (w i .one) (w i .asid)) a
+        ∙ or-comm (bitOf (r .used) a) (bitOf (asidBit (w i .one) (w i .asid)) a)
+        ∙ any-turn (λ (x : ℕ). holdsAsid a (w x)) i (bitOf (asidBit (w i .one) (w i .asid)) a) (bitOf (r .used) a) (asid-bit (w i .one) (w i .asid) a k) (h .used a k)
 
--- the works below i are those of the steps
+pub checking-end : (c : Company) (w : ℕ → Work) (works : List Work) (n i : ℕ) (r : Checked) → i ≤ n → n ≤ i → ((x : ℕ) → x < n → workAt works x ≡ w x) →
+    Checking c w n i r → Checks c works n r
+checking-end c w works n i r k l same h = record {
+  refused = record {
+    most = h .refused .most;
+    lower = λ (x : ℕ) (m : x < r .refused) (e : workAt works x .granule ≡ 0).
+        let below = h .refused .most in
+        clash (eq-eqb (w x .granule) 0 (ap granule (sym (same x (omega arith))) ∙ e)) (h .refused .lower x (omega arith) m);
+    here = λ (m : r .refused < n). ap granule (same (r .refused) m) ∙ eqb-true (w (r .refused) .granule) 0 (h .refused .here m .1);
+  };
+  outside = record {
+    most = h .outside .most;
+    lower = λ (x : ℕ) (m : x < r .outside).
+        let below = h .outside .most in
+        ap own (same x (omega arith)) ∙ not-false (sameCompany (w x .company) c) (h .outside .lower x (omega arith) m);
+    here = λ (m : r .outside < n). ap own (same (r .outside) m) ∙ not-true (sameCompany (w (r .outside) .company) c) (h .outside .here m .1);
+  };
+  common = λ (p : ℕ) (b : p < 8).
+      every-end (λ (x : ℕ). bitOf (w x .reached) p) i n (bitOf (r .common) p) (h .common p b) k l
+      ∙ every-same (λ (x : ℕ). bitOf (w x .reached) p) (λ (x : ℕ). bitOf (workAt works x .reached) p) n (λ (x : ℕ) (m : x < n). ap (reaches p) (sym (same x m)));
+  used = λ (a : ℕ) (b : a < 16).
+      any-end (λ (x : ℕ). holdsAsid a (w x)) i n (bitOf (r .used) a) (h .used a b) k l
+      ∙ any-same (λ (x : ℕ). holdsAsid a (w x)) (λ (x : ℕ). holdsAsid a (workAt works x)) n (λ (x : ℕ) (m : x < n). ap (holdsAsid a) (sym (same x m)));
+}
+  where
+    granule : Work → ℕ
+    granule v = v .granule
+
+    own : Work → Bool
+    own v = sameCompany (v .company) c
+
+    reaches : ℕ → Work → Bool
+    reaches p v = bitOf (v .reached) p
+
+-- the work of step x, and: the works below i are those of the steps
+abbrev pub stepWork : State → List ℕ → ℕ → Work
+stepWork st steps x = workIn (stepAt st steps x)
+
 abbrev pub Each : State → List ℕ → List Work → ℕ → Type 0
-Each st steps works i = (x : ℕ) → x < i → workAt works x ≡ workIn (stepAt st steps x)
+Each st steps works i = (x : ℕ) → x < i → workAt works x ≡ stepWork st steps x
 
-pub each-more : (st : State) (steps : List ℕ) (works : List Work) (i : ℕ) (w : Work) → i < length works → w ≡ workIn (stepAt st steps i) → Each st steps works i →
+pub each-more : (st : State) (steps : List ℕ) (works : List Work) (i : ℕ) (w : Work) → i < length works → w ≡ stepWork st steps i → Each st steps works i →
     Each st steps (set works i w) (i + 1)
 each-more st steps works i w l e h x m = go (ℕ-discrete x i)
   where
-    go : Dec (x ≡ i) → workAt (set works i w) x ≡ workIn (stepAt st steps x)
-    go (yes p) = subst (λ (y : ℕ). workAt (set works i w) y ≡ workIn (stepAt st steps y)) (sym p) (getD-set-same works i w noWork l ∙ e)
+    go : Dec (x ≡ i) → workAt (set works i w) x ≡ stepWork st steps x
+    go (yes p) = subst (λ (y : ℕ). workAt (set works i w) y ≡ stepWork st steps y) (sym p) (getD-set-same works i w noWork l ∙ e)
     go (no d) = getD-set-other works i x w noWork d ∙ h x (omega arith)
 
 pub each-end : (st : State) (steps : List ℕ) (works : List Work) (i : ℕ) → slots steps ≤ i → Each st steps works i → AreSteps st steps works

@@ -1,8 +1,10 @@
 -- The works of a list's steps.
-use Prim.Native.Nat.{ℕ, _+_, _*_, _<_, _≤_}
-use mathlib.Core.Bool.{Bool, true, false}
+use Prim.Native.Nat.{ℕ, _+_, _*_, _^_, _<_, _≤_}
+use mathlib.Core.Bool.{Bool, true, false, cond, not, _&&_}
 use mathlib.Core.List.{List}
 use mathlib.Core.Path.{_≡_}
+use lib.Bits.{bitAnd, bitOr}
+use lib.Dec.{eqb, ltb}
 use lib.IntN.{pos}
 use lib.ListN.{getD}
 use Rattle.laws.specs.Every.{every, any}
@@ -71,12 +73,29 @@ pub record FirstOther (c : Company) (works : List Work) (n r : ℕ) : Type 0 whe
   pub lower : (i : ℕ) → i < r → sameCompany (workAt works i .company) c ≡ true
   pub here : r < n → sameCompany (workAt works r .company) c ≡ false
 
--- what a pass over n works says of them
+-- what the works of n steps say together
 pub record Checks (c : Company) (works : List Work) (n : ℕ) (r : Checked) : Type 0 where
   pub refused : FirstNone works n (r .refused)
   pub outside : FirstOther c works n (r .outside)
   -- the processors that every one of them reaches
   pub common : (p : ℕ) → p < 8 → bitOf (r .common) p ≡ every (λ (i : ℕ). bitOf (workAt works i .reached) p) n
+  -- the ASIDs that one of them uses
+  pub used : (a : ℕ) → a < 16 → bitOf (r .used) a ≡ any (λ (i : ℕ). holdsAsid a (workAt works i)) n
+
+-- that of no work yet, and that with work w as number i of n
+abbrev pub unchecked : ℕ → Checked
+unchecked n = record { refused = n; outside = n; common = 255; used = 0 }
+
+abbrev pub asidBit : Bool → ℕ → ℕ
+asidBit one asid = cond (one && ltb asid 16) (2 ^ asid) 0
+
+abbrev pub withStep : Checked → Company → ℕ → ℕ → Work → Checked
+withStep r c n i w = record {
+  refused = cond (eqb (w .granule) 0 && eqb (r .refused) n) i (r .refused);
+  outside = cond (not (sameCompany (w .company) c) && eqb (r .outside) n) i (r .outside);
+  common = bitAnd (w .reached) (r .common);
+  used = bitOr (r .used) (asidBit (w .one) (w .asid));
+}
 
 -- one of n works drops an entry; the used ASID field of one holds a number
 abbrev pub takenBy : List Work → ℕ → Entry → Bool

@@ -1,40 +1,52 @@
-// What the works of a list's steps say together, in one pass over them.
-ghost use Prim.Native.Nat.{_≤_};
+// What the works of a list's steps say together, one step after the other.
+ghost use Prim.Native.Nat.{_≤_, _<_};
 ghost use mathlib.Core.Bool.{cond};
 ghost use mathlib.Core.Path.{_≡_};
-ghost use Rattle.steps.specs.Steps.{Checks};
+ghost use Rattle.steps.specs.Steps.{asidBit, unchecked, withStep};
 use machine::Company;
 use machine::Work;
+use spans::size;
 use tags::same_company;
 
-// The first step that is refused and the first of another company, each the number of steps where there is none, and the processors that
-// every step reaches, a bit for each, number 0 lowest.
+// The first step that is refused and the first of another company, each the number of steps where there is none; the processors that every
+// step reaches and the ASIDs below 16 that one uses, a bit for each, number 0 lowest.
 pub struct Checked {
     pub refused: usize,
     pub outside: usize,
     pub common: u64,
+    pub used: u64,
 }
 
-// Every work has a granule, and what stands for none has not.
-pub fn check(works: [Work; 16], n: usize, company: Company) -> Checked
-    requires { ⌜ n ≤ 16 ⌝ }
-    ensures { λ r. ⌜ Checks company works n r ⌝ }
+// Before the first of n steps.
+pub fn unchecked(n: usize) -> Checked
+    ensures { λ r. ⌜ r ≡ unchecked n ⌝ }
 {
-    let mut refused = n;
-    let mut outside = n;
-    let mut common = 255;
-    for i in 0..n {
-        let work = works[i];
-        let own = work.company;
-        let same = same_company(own, company);
-        refused = choose((work.granule == 0) & (refused == n), i, refused);
-        outside = choose(!same & (outside == n), i, outside);
-        common = work.reached & common;
+    Checked {
+        refused: n,
+        outside: n,
+        common: 255,
+        used: 0,
     }
+}
+
+// With step i of n. Every work has a granule, and what stands for none has not.
+pub fn with_step(checked: Checked, company: Company, n: usize, i: usize, work: Work) -> Checked
+    ensures { λ r. ⌜ r ≡ withStep checked company n i work ⌝ }
+{
+    let own = work.company;
+    let same = same_company(own, company);
+    let refused = choose(
+        (work.granule == 0) & (checked.refused == n),
+        i,
+        checked.refused,
+    );
+    let outside = choose(!same & (checked.outside == n), i, checked.outside);
+    let bit = asid_bit(work.one, work.asid);
     Checked {
         refused,
         outside,
-        common,
+        common: work.reached & checked.common,
+        used: checked.used | bit,
     }
 }
 
@@ -42,4 +54,10 @@ fn choose(here: bool, i: usize, before: usize) -> usize
     ensures { λ r. ⌜ r ≡ cond here i before ⌝ }
 {
     if here { i } else { before }
+}
+
+fn asid_bit(one: bool, asid: u64) -> u64
+    ensures { λ r. ⌜ r ≡ asidBit one asid ⌝ }
+{
+    if one & (asid < 16) { size(asid) } else { 0 }
 }

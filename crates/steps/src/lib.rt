@@ -1,7 +1,9 @@
-// Steps: the works of a list's steps, the first that is refused or of another company, and the processors that all of them reach.
+// Steps: the work of a list's step, and what the works say together: which are refused, of another company, what all reach and some use.
 mod checks;
 mod steps;
 
 pub use checks::Checked;
-pub use checks::check;
-pub use steps::works_of;
+pub use checks::unchecked;
+pub use checks::with_step;
+pub use steps::no_work;
+pub use steps::work_in;

@@ -1,18 +1,14 @@
-// The works of a list's steps, once for the whole judgement.
-ghost use mathlib.Core.Bool.{true};
+// The work of a step.
 ghost use mathlib.Core.Path.{_≡_};
-ghost use Rattle.machine.specs.Execute.{isList};
-ghost use Rattle.steps.specs.Steps.{noWork, workIn, AreSteps};
+ghost use Rattle.steps.specs.Steps.{noWork, workIn};
 use machine::Company;
 use machine::Regime;
 use machine::Resolved;
 use machine::Security;
-use machine::State;
 use machine::Work;
-use words::OperationWord;
-use works::resolve;
 
-fn no_work() -> Work
+// What stands for a step that is refused.
+pub fn no_work() -> Work
     ensures { λ r. ⌜ r ≡ noWork ⌝ }
 {
     let company = Company {
@@ -39,11 +35,42 @@ fn no_work() -> Work
     }
 }
 
-fn work_in(resolved: Resolved) -> Work
+// A work field by field: the fields were written one by one, and a load of several at once would wait for all of them.
+fn copied(work: Work) -> Work
+    ensures { λ r. ⌜ r ≡ work ⌝ }
+{
+    let own = work.company;
+    let regime = own.regime;
+    let security = own.security;
+    let company = Company {
+        regime,
+        security,
+        vmid: own.vmid,
+        stage2: own.stage2,
+        ns: own.ns,
+    };
+    Work {
+        company,
+        reached: work.reached,
+        granule: work.granule,
+        first: work.first,
+        last: work.last,
+        hinted: work.hinted,
+        level: work.level,
+        wide: work.wide,
+        d128: work.d128,
+        leaves: work.leaves,
+        one: work.one,
+        asid: work.asid,
+        nxs: work.nxs,
+    }
+}
+
+pub fn work_in(resolved: Resolved) -> Work
     ensures { λ r. ⌜ r ≡ workIn resolved ⌝ }
 {
     match resolved {
-        Resolved::Works(work) => work,
+        Resolved::Works(work) => copied(work),
         Resolved::Unknown => no_work(),
         Resolved::Undefined => no_work(),
         Resolved::Trapped(number) => no_work(),
@@ -51,18 +78,4 @@ fn work_in(resolved: Resolved) -> Work
         Resolved::NoGranule => no_work(),
         Resolved::Unpredictable => no_work(),
     }
-}
-
-pub fn works_of(list: &[u64], state: State) -> [Work; 16]
-    requires { ⌜ isList (now list) ≡ true ⌝ }
-    ensures { λ r. ⌜ AreSteps state (now (list .entry)) r ⌝ }
-{
-    let blank = no_work();
-    let mut works = [blank; 16];
-    for i in 0..list.len() / 3 {
-        let read = OperationWord { bits: list[3 * i] }.read();
-        let resolved = resolve(state, read, list[3 * i + 1], list[3 * i + 2]);
-        works[i] = work_in(resolved);
-    }
-    works
 }

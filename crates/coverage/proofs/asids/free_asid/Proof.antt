@@ -1,26 +1,33 @@
 -- `coverage::asids::free_asid` meets its contract.
-use Prim.Native.Nat.{_+_, _-_, _≤_}
+use Prim.Native.Nat.{_-_, _≤_}
 use mathlib.Core.Path.{sym, _∙_}
 use native.Mathlib.Omega.{arith}
 use borrow.Author.Needs.{needs}
-use Rattle.coverage.proofs.Covering.{Used, used-start, used-more, used-few, used-end}
+use borrow.Author.Tests.{not-true, not-false}
+use Rattle.coverage.proofs.Covering.{InBelow, in-start, in-more, out-here, out-end}
 use Rattle.coverage.proofs.asids.free_asid.Statement.{statement}
 use Rattle.coverage.proofs.asids.free_asid.Tie as tie
 
 abbrev Inv-loop : tie.InvT-loop
-Inv-loop works n asid₀ asid = (asid ≤ n) × (n ≤ 16) × Used works n asid
+Inv-loop used asid₀ asid = (asid ≤ 16) × InBelow used asid
 
 abbrev μ-loop : tie.MeasureT-loop
-μ-loop works n asid₀ asid = 17 - asid
+μ-loop used asid₀ asid = 16 - asid
 
 loop-holds : tie.Need-loop-holds Inv-loop μ-loop
-loop-holds c = (omega arith, omega arith, used-start (c .args .works) (c .args .n))
+loop-holds c = (omega arith, in-start (c .args .used))
 
-cast-is-used : tie.Need-cast-is-used Inv-loop μ-loop
-cast-is-used c = search needs
+cast-bit-of : tie.Need-cast-bit-of Inv-loop μ-loop
+cast-bit-of c = search needs
 
-is-used-requires : tie.Need-is-used-requires Inv-loop μ-loop
-is-used-requires c κs = search needs
+bit-of-requires : tie.Need-bit-of-requires Inv-loop μ-loop
+bit-of-requires c κs = search needs
+
+returns : tie.Need-returns Inv-loop μ-loop
+returns c =
+    let l = c .before .before .before .loop in
+    out-here (c .before .before .before .before .args .used) (l .asid) (omega (arith, c .before .before .loop-test .taken)) (l .inv .1)
+    (sym (c .before .bit-of .ensures) ∙ not-true _ (c .if1 .taken))
 
 add-asid : tie.Need-add-asid Inv-loop μ-loop
 add-asid c = search needs
@@ -30,11 +37,11 @@ loop-less c = search needs
 
 loop-again : tie.Need-loop-again Inv-loop μ-loop
 loop-again c =
-    let more = used-more (c .before .before .before .args .works) (c .before .before .before .args .n) (c .before .before .loop .asid) (c .before .before .loop .inv .2) (sym (c .before .is-used .ensures) ∙ c .if1 .taken) in
-    (used-few (c .before .before .before .args .works) (c .before .before .before .args .n) (c .before .before .loop .asid + 1) more, omega arith, more)
+    let l = c .before .before .before .loop in
+    (omega arith, in-more (c .before .before .before .before .args .used) (l .asid) (l .inv .1) (sym (c .before .bit-of .ensures) ∙ not-false _ (c .if1 .left)))
 
-returns : tie.Need-returns Inv-loop μ-loop
-returns c = used-end (c .before .before .before .args .works) (c .before .before .before .args .n) (c .before .before .loop .asid) (c .before .before .loop .inv .2) (sym (c .before .is-used .ensures) ∙ c .if1 .left)
+returns-2 : tie.Need-returns-2 Inv-loop μ-loop
+returns-2 c = out-end (c .before .before .args .used) (c .before .loop .asid) (omega (arith, c .loop-test .left)) (c .before .loop .inv .1)
 
 pub free-asid-spec : {M : Type 1} → statement M
 free-asid-spec =
@@ -43,9 +50,10 @@ free-asid-spec =
     Inv-loop
     μ-loop
     loop-holds
-    cast-is-used
-    is-used-requires
+    cast-bit-of
+    bit-of-requires
+    returns
     add-asid
     loop-less
     loop-again
-    returns)
+    returns-2)

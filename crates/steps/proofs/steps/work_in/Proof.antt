@@ -1,12 +1,13 @@
 -- `steps::steps::work_in` meets its contract.
-use mathlib.Core.Path.{sym, ap}
 use borrow.Author.Needs.{needs}
 use Rattle.steps.proofs.steps.work_in.Statement.{statement}
-use Rattle.steps.specs.Steps.{workIn}
 use Rattle.steps.proofs.steps.work_in.Tie as tie
 
 enum-known-resolved : tie.Need-enum-known-resolved
 enum-known-resolved c = search needs
+
+copied-requires : tie.Need-copied-requires
+copied-requires c κs = search needs
 
 enum-told : tie.Need-enum-told
 enum-told c = search needs
@@ -45,7 +46,7 @@ no-work-requires-6 : tie.Need-no-work-requires-6
 no-work-requires-6 c κs = search needs
 
 returns : tie.Need-returns
-returns c = ap workIn (sym (c .before .resolved .given .1))
+returns c = simp (c .copied .ensures, c .before .before .resolved .given .1)
 
 returns-2 : tie.Need-returns-2
 returns-2 c = search needs
@@ -70,6 +71,7 @@ work-in-spec =
     tie.close
     (tie.spec
     enum-known-resolved
+    copied-requires
     enum-told
     no-work-requires
     enum-told-2
