@@ -1,5 +1,4 @@
 // What the works of a list's steps say together, one step after the other.
-ghost use Prim.Native.Nat.{_≤_, _<_};
 ghost use mathlib.Core.Bool.{cond};
 ghost use mathlib.Core.Path.{_≡_};
 ghost use Rattle.steps.specs.Steps.{asidBit, unchecked, withStep};
