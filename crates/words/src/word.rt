@@ -4,7 +4,6 @@ ghost use mathlib.Core.Bool.{cond};
 ghost use Prim.Native.Nat.{_≤_};
 ghost use Rattle.machine.specs.Word.{isFixed, readOf, builtOf};
 use crate::numbers::crm_of;
-use crate::numbers::family_of;
 use crate::numbers::op1_of;
 use crate::numbers::op2_of;
 use crate::row_of;
@@ -66,10 +65,9 @@ impl OperationWord {
         if op.rt < 32 {
             let name = op.name;
             let share = op.share;
-            let family = family_of(name);
-            let op1 = op1_of(family) as u64;
+            let op1 = op1_of(name) as u64;
             let crn = crn_of(op.nxs) as u64;
-            let crm = crm_of(family, share) as u64;
+            let crm = crm_of(name, share) as u64;
             let op2 = op2_of(name, share) as u64;
             let rt = op.rt as u64;
             Built::Word(fixed_of(op.tlbip) + op1 * 65536 + crn * 4096 + crm * 256 + op2 * 32 + rt)

@@ -5,9 +5,6 @@ use Rattle.machine.specs.Word.{builtOf, wordOf}
 use Rattle.words.proofs.word.OperationWord.build.Statement.{statement}
 use Rattle.words.proofs.word.OperationWord.build.Tie as tie
 
-family-of-requires : tie.Need-family-of-requires
-family-of-requires c κs = search needs
-
 op1-of-requires : tie.Need-op1-of-requires
 op1-of-requires c κs = search needs
 
@@ -38,36 +35,36 @@ cast-rt c = search needs
 fixed-of-requires : tie.Need-fixed-of-requires
 fixed-of-requires c κs = search needs
 
-mul-t14 : tie.Need-mul-t14
-mul-t14 c = search needs
+mul-t13 : tie.Need-mul-t13
+mul-t13 c = search needs
 
-add-t15 : tie.Need-add-t15
-add-t15 c = search needs
+add-t14 : tie.Need-add-t14
+add-t14 c = search needs
 
-mul-t16 : tie.Need-mul-t16
-mul-t16 c = search needs
+mul-t15 : tie.Need-mul-t15
+mul-t15 c = search needs
 
-add-t17 : tie.Need-add-t17
-add-t17 c = search needs
+add-t16 : tie.Need-add-t16
+add-t16 c = search needs
 
-mul-t18 : tie.Need-mul-t18
-mul-t18 c = search needs
+mul-t17 : tie.Need-mul-t17
+mul-t17 c = search needs
 
-add-t19 : tie.Need-add-t19
-add-t19 c = search needs
+add-t18 : tie.Need-add-t18
+add-t18 c = search needs
 
-mul-t20 : tie.Need-mul-t20
-mul-t20 c = search needs
+mul-t19 : tie.Need-mul-t19
+mul-t19 c = search needs
+
+add-t20 : tie.Need-add-t20
+add-t20 c = search needs
 
 add-t21 : tie.Need-add-t21
 add-t21 c = search needs
 
-add-t22 : tie.Need-add-t22
-add-t22 c = search needs
-
 returns : tie.Need-returns
 unfolding builtOf wordOf
-returns c = simp (c .fixed-of .ensures .0, c .before .before .op2-of .ensures, c .before .before .before .crm-of .ensures, c .before .before .before .before .crn-of .ensures, c .before .before .before .before .before .op1-of .ensures, c .before .before .before .before .before .before .family-of .ensures, lt-ltb _ _ (c .before .before .before .before .before .before .before .if1 .taken))
+returns c = simp (c .fixed-of .ensures .0, c .before .before .op2-of .ensures, c .before .before .before .crm-of .ensures, c .before .before .before .before .crn-of .ensures, c .before .before .before .before .before .op1-of .ensures, lt-ltb _ _ (c .before .before .before .before .before .before .if1 .taken))
 
 returns-2 : tie.Need-returns-2
 unfolding builtOf wordOf
@@ -77,7 +74,6 @@ pub build-spec : {M : Type 1} → statement M
 build-spec =
     tie.close
     (tie.spec
-    family-of-requires
     op1-of-requires
     cast-op1
     crn-of-requires
@@ -88,14 +84,14 @@ build-spec =
     cast-op2
     cast-rt
     fixed-of-requires
-    mul-t14
-    add-t15
-    mul-t16
-    add-t17
-    mul-t18
-    add-t19
-    mul-t20
+    mul-t13
+    add-t14
+    mul-t15
+    add-t16
+    mul-t17
+    add-t18
+    mul-t19
+    add-t20
     add-t21
-    add-t22
     returns
     returns-2)
