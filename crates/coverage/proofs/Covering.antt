@@ -2,13 +2,14 @@
 use Prim.Native.Nat.{ℕ, _+_, _*_, _/_, _^_, _<_, _≤_}
 use mathlib.Core.Bool.{true, false}
 use mathlib.Core.List.{List}
-use mathlib.Core.Path.{_≡_, refl, sym, ap, ap₂, subst, _∙_}
-use native.Mathlib.Decide.{ℕ-discrete, decLt}
+use mathlib.Core.Path.{_≡_, refl, sym, ap₂, _∙_}
+use native.Mathlib.Decide.{decLt}
 use native.Mathlib.Nat.{div-lt-iff-lt-mul, le-div-iff-mul-le}
 use native.Mathlib.Omega.{arith}
 use lib.Dec.{eqb, leb}
 use lib.Pow.{pow-add, pow-mono, pow-pos}
 use borrow.Author.Tests.{eqb-true, leb-true}
+use Rattle.laws.proofs.Below.{Below, below-more}
 use Rattle.laws.proofs.Any.{few}
 use Rattle.laws.proofs.Truth.{and-1, not-so, clash}
 use Rattle.laws.specs.Mask.{bitOf}
@@ -55,17 +56,7 @@ span-met w e k q s b from to =
 
 -- the ASIDs below a are used
 abbrev pub Used : List Work → ℕ → ℕ → Type 0
-Used works n a = (b : ℕ) → b < a → usedBy works n b ≡ true
-
-pub used-start : (works : List Work) (n : ℕ) → Used works n 0
-used-start works n b l = absurd (let z : ⊥ = omega arith in z)
-
-pub used-more : (works : List Work) (n a : ℕ) → Used works n a → usedBy works n a ≡ true → Used works n (a + 1)
-used-more works n a h e b l = go (ℕ-discrete b a)
-  where
-    go : Dec (b ≡ a) → usedBy works n b ≡ true
-    go (yes p) = subst (λ (x : ℕ). usedBy works n x ≡ true) (sym p) e
-    go (no d) = h b (omega arith)
+Used works n = Below (λ (b : ℕ). usedBy works n b ≡ true)
 
 -- a step uses one ASID at most, so n steps use n at most
 pub used-few : (works : List Work) (n a : ℕ) → Used works n a → a ≤ n
@@ -108,19 +99,9 @@ named-none t IsFree h k = record {
   none = λ (i : t .one ≡ false) (j : hasAsids (t .company) ≡ false). refl;
 }
 
--- the numbers below a are in a set: at the start of a loop that looks for one that is not, at a turn and at its two ends
+-- the numbers below a are in a set: at the two ends of a loop that looks for one that is not
 abbrev pub InBelow : ℕ → ℕ → Type 0
-InBelow used a = (b : ℕ) → b < a → bitOf used b ≡ true
-
-pub in-start : (used : ℕ) → InBelow used 0
-in-start used b l = absurd (let z : ⊥ = omega arith in z)
-
-pub in-more : (used a : ℕ) → InBelow used a → bitOf used a ≡ true → InBelow used (a + 1)
-in-more used a h e b l = go (ℕ-discrete b a)
-  where
-    go : Dec (b ≡ a) → bitOf used b ≡ true
-    go (yes i) = ap (bitOf used) i ∙ e
-    go (no d) = h b (omega arith)
+InBelow used = Below (λ (b : ℕ). bitOf used b ≡ true)
 
 pub out-here : (used a : ℕ) → a < 16 → InBelow used a → bitOf used a ≡ false → LowestOut used a
 out-here used a l h e = record { most = omega arith; lower = h; here = λ (m : a < 16). e }
@@ -142,7 +123,7 @@ lowest-free works n used a most same h = used-end works n a lower (go (decLt a 1
     go : Dec (a < 16) → usedBy works n a ≡ false
     go (yes l) = sym (same a l) ∙ h .here l
     go (no l) =
-        not-so (usedBy works n a) (λ (e : usedBy works n a ≡ true). let few = used-few works n (a + 1) (used-more works n a lower e) in omega arith)
+        not-so (usedBy works n a) (λ (e : usedBy works n a ≡ true). let few = used-few works n (a + 1) (below-more (λ (b : ℕ). usedBy works n b ≡ true) a lower e) in omega arith)
 
 pub named-by : (t : Target) (works : List Work) (n used a : ℕ) → n ≤ 16 → ((b : ℕ) → b < 16 → bitOf used b ≡ usedBy works n b) → NamedBy t used a →
     Named t works n a

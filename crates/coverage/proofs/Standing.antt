@@ -1,11 +1,11 @@
 -- The lowest processor that the target names and every step reaches: the loop that finds it, and which processors come after it.
-use Prim.Native.Nat.{ℕ, _+_, _<_, _≤_}
+use Prim.Native.Nat.{ℕ, _<_, _≤_}
 use mathlib.Core.Bool.{Bool, true, false}
-use mathlib.Core.Path.{_≡_, refl, sym, ap, _∙_}
-use native.Mathlib.Decide.{ℕ-discrete}
+use mathlib.Core.Path.{_≡_, refl, sym}
 use native.Mathlib.Omega.{arith}
 use lib.Dec.{ltb}
 use borrow.Author.Tests.{ltb-true, ltb-false}
+use Rattle.laws.proofs.Below.{Below}
 use Rattle.laws.proofs.Any.{none-any, some-any}
 use Rattle.laws.specs.Every.{any}
 use Rattle.coverage.specs.Processors.{isShared, Leads}
@@ -13,17 +13,7 @@ use Rattle.coverage.specs.Processors.{isShared, Leads}
 module _ (processors common : ℕ) where
   -- there is none below p
   abbrev pub NoneBelow : ℕ → Type 0
-  NoneBelow p = (x : ℕ) → x < p → isShared processors common x ≡ false
-
-  pub none-start : NoneBelow 0
-  none-start x l = absurd (let z : ⊥ = omega arith in z)
-
-  pub none-more : (p : ℕ) → NoneBelow p → isShared processors common p ≡ false → NoneBelow (p + 1)
-  none-more p h n x l = go (ℕ-discrete x p)
-    where
-      go : Dec (x ≡ p) → isShared processors common x ≡ false
-      go (yes e) = ap (isShared processors common) e ∙ n
-      go (no d) = h x (omega arith)
+  NoneBelow = Below (λ (x : ℕ). isShared processors common x ≡ false)
 
   pub lead-here : (p : ℕ) → p < 8 → NoneBelow p → isShared processors common p ≡ true → Leads processors common p
   lead-here p l h e = record { most = omega arith; lower = h; here = λ (m : p < 8). e }

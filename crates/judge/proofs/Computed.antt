@@ -25,7 +25,8 @@ use Rattle.machine.specs.declared.judge.Judged.the-variants.{Accepted, BadShape
 use Rattle.machine.specs.declared.judge.Target.{Target}
 use Rattle.machine.specs.declared.processor.State.{State}
 use Rattle.machine.specs.declared.work.Work.{Work}
-use Rattle.coverage.proofs.Covering.{Used, used-start, used-more, used-few, used-end, named-own, named-free, named-none, number-most}
+use Rattle.laws.proofs.Below.{below-start, below-more}
+use Rattle.coverage.proofs.Covering.{Used, used-few, used-end, named-own, named-free, named-none, number-most}
 use Rattle.judge.proofs.Deciding.{searches, decides, step-works}
 use Rattle.judge.proofs.Targets.{Fits}
 use Rattle.judge.proofs.Walk.{AtProcessor, AtKind, AtBase, start-processors, skip-processor, enter-processor, skip-kind, enter-kind, leave-kind, leave-processor, finish, jump, gap, asked-span}
@@ -234,7 +235,7 @@ free-free works n (suc more) a h l = go (usedBy works n a) refl (free-free works
   where
     go : (b : Bool) → usedBy works n a ≡ b → (Used works n (a + 1) → n < a + 1 + more → Free works n (freeAsid works n more (a + 1))) →
         Free works n (cond b (freeAsid works n more (a + 1)) a)
-    go true e on = on (used-more works n a h e) (omega arith)
+    go true e on = on (below-more (λ (b : ℕ). usedBy works n b ≡ true) a h e) (omega arith)
     go false e on = used-end works n a h e
 
 named-named : (t : Target) (works : List Work) (n : ℕ) → Fits t → n ≤ 16 → Named t works n (namedAsid t works n) × (namedAsid t works n < 2 ^ 16)
@@ -242,7 +243,7 @@ unfolding namedAsid
 named-named t works n f l = go (t .one) refl (hasAsids (t .company)) refl
   where
     free : Free works n (freeAsid works n 17 0)
-    free = free-free works n 17 0 (used-start works n) (omega arith)
+    free = free-free works n 17 0 (below-start (λ (b : ℕ). usedBy works n b ≡ true)) (omega arith)
 
     go : (b : Bool) → t .one ≡ b → (c : Bool) → hasAsids (t .company) ≡ c →
         Named t works n (cond b (t .asid) (cond c (freeAsid works n 17 0) 0)) × (cond b (t .asid) (cond c (freeAsid works n 17 0) 0) < 2 ^ 16)

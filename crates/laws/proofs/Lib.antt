@@ -1,6 +1,7 @@
 -- Laws that other rooms cite.
 pub mod Truth
 pub mod Every
+pub mod Below
 pub mod Mask
 pub mod Bits
 pub mod Aligned

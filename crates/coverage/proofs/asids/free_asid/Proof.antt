@@ -1,10 +1,13 @@
 -- `coverage::asids::free_asid` meets its contract.
-use Prim.Native.Nat.{_-_, _≤_}
-use mathlib.Core.Path.{sym, _∙_}
+use Prim.Native.Nat.{ℕ, _-_, _≤_}
+use mathlib.Core.Bool.{true}
+use mathlib.Core.Path.{_≡_, sym, _∙_}
 use native.Mathlib.Omega.{arith}
 use borrow.Author.Needs.{needs}
 use borrow.Author.Tests.{not-true, not-false}
-use Rattle.coverage.proofs.Covering.{InBelow, in-start, in-more, out-here, out-end}
+use Rattle.laws.proofs.Below.{below-start, below-more}
+use Rattle.laws.specs.Mask.{bitOf}
+use Rattle.coverage.proofs.Covering.{InBelow, out-here, out-end}
 use Rattle.coverage.proofs.asids.free_asid.Statement.{statement}
 use Rattle.coverage.proofs.asids.free_asid.Tie as tie
 
@@ -15,7 +18,7 @@ abbrev μ-loop : tie.MeasureT-loop
 μ-loop used asid₀ asid = 16 - asid
 
 loop-holds : tie.Need-loop-holds Inv-loop μ-loop
-loop-holds c = (omega arith, in-start (c .args .used))
+loop-holds c = (omega arith, below-start (λ (b : ℕ). bitOf (c .args .used) b ≡ true))
 
 cast-bit-of : tie.Need-cast-bit-of Inv-loop μ-loop
 cast-bit-of c = search needs
@@ -38,7 +41,7 @@ loop-less c = search needs
 loop-again : tie.Need-loop-again Inv-loop μ-loop
 loop-again c =
     let l = c .before .before .before .loop in
-    (omega arith, in-more (c .before .before .before .before .args .used) (l .asid) (l .inv .1) (sym (c .before .bit-of .ensures) ∙ not-false _ (c .if1 .left)))
+    (omega arith, below-more (λ (b : ℕ). bitOf (c .before .before .before .before .args .used) b ≡ true) (l .asid) (l .inv .1) (sym (c .before .bit-of .ensures) ∙ not-false _ (c .if1 .left)))
 
 returns-2 : tie.Need-returns-2 Inv-loop μ-loop
 returns-2 c = out-end (c .before .before .args .used) (c .before .loop .asid) (omega (arith, c .loop-test .left)) (c .before .loop .inv .1)

@@ -1,12 +1,14 @@
 -- `coverage::processors::lead_of` meets its contract.
-use Prim.Native.Nat.{_-_, _≤_}
-use mathlib.Core.Bool.{_&&_}
-use mathlib.Core.Path.{sym, ap₂, _∙_}
+use Prim.Native.Nat.{ℕ, _-_, _≤_}
+use mathlib.Core.Bool.{false, _&&_}
+use mathlib.Core.Path.{_≡_, sym, ap₂, _∙_}
 use native.Mathlib.Omega.{arith}
 use borrow.Author.Needs.{needs}
-use Rattle.coverage.proofs.Standing.{NoneBelow, none-start, none-more, lead-here, lead-end}
+use Rattle.laws.proofs.Below.{below-start, below-more}
+use Rattle.coverage.proofs.Standing.{NoneBelow, lead-here, lead-end}
 use Rattle.coverage.proofs.processors.lead_of.Statement.{statement}
 use Rattle.coverage.proofs.processors.lead_of.Tie as tie
+use Rattle.coverage.specs.Processors.{isShared}
 
 abbrev Inv-loop : tie.InvT-loop
 Inv-loop processors common p₀ p = (p ≤ 8) × NoneBelow processors common p
@@ -15,7 +17,7 @@ abbrev μ-loop : tie.MeasureT-loop
 μ-loop processors common p₀ p = 8 - p
 
 loop-holds : tie.Need-loop-holds Inv-loop μ-loop
-loop-holds c = (omega arith, none-start (c .args .processors) (c .args .common))
+loop-holds c = (omega arith, below-start (λ (x : ℕ). isShared (c .args .processors) (c .args .common) x ≡ false))
 
 bit-of-requires : tie.Need-bit-of-requires Inv-loop μ-loop
 bit-of-requires c κs = search needs
@@ -41,7 +43,7 @@ loop-again c =
     let a = c .before .before .before .before .before .args in
     let l = c .before .before .before .before .loop in
     let e = sym (ap₂ _&&_ (c .before .before .bit-of .ensures) (c .before .bit-of2 .ensures)) ∙ c .if1 .left in
-    (omega arith, none-more (a .processors) (a .common) (l .p) (l .inv .1) e)
+    (omega arith, below-more (λ (x : ℕ). isShared (a .processors) (a .common) x ≡ false) (l .p) (l .inv .1) e)
 
 returns-2 : tie.Need-returns-2 Inv-loop μ-loop
 returns-2 c =
