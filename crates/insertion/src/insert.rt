@@ -36,13 +36,12 @@ fn first_empty(table: &[u64]) -> usize
     requires { ⌜ length (now table) % 3 ≡ 0 ⌝ }
     ensures { λ r. ⌜ r ≡ first isEmpty (now (table .entry)) ⌝ }
 {
-    let n = table.len() / 3;
-    let mut k = 0;
-    while k < n {
-        if !is_entry(table[3 * k], table[3 * k + 1]) {
-            return k;
+    let mut i = 0;
+    while i < table.len() {
+        if !is_entry(table[i], table[i + 1]) {
+            return i / 3;
         }
-        k += 1;
+        i += 3;
     }
-    k
+    i / 3
 }

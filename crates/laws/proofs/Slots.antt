@@ -2,7 +2,7 @@
 use Prim.Native.Nat.{ℕ, zero, suc, _+_, _*_, _/_, _%_, _<_, _≤_}
 use mathlib.Core.Bool.{Bool, true, false, cond, _||_}
 use mathlib.Core.List.{List, [], _∷_}
-use mathlib.Core.Path.{_≡_, refl, sym, ap, _∙_}
+use mathlib.Core.Path.{_≡_, refl, sym, ap, subst, _∙_}
 use native.Mathlib.Omega.{arith}
 use lib.Dec.{ltb}
 use lib.ListN.{length, getD, drop, set, length-set, drop-of-length-le}
@@ -44,6 +44,13 @@ seek-on p l i k h s e =
     let n : i + 2 < length l = omega arith in
     let f : first p (drop i l) ≡ suc (first p (drop (i + 3) l)) = ap (first p) (next-slot l i n) ∙ simp e in
     (m, omega arith, omega arith, omega arith)
+
+-- where slots are counted by words, slot i / 3 stands at word i
+pub seek-next : (p : ℕ → ℕ → ℕ → Bool) (l : List ℕ) (i : ℕ) → i < length l → Seeking p l i (i / 3) →
+    p (getD l i 0) (getD l (i + 1) 0) (getD l (i + 2) 0) ≡ false → Seeking p l (i + 3) ((i + 3) / 3)
+seek-next p l i h s e =
+    let next : i / 3 + 1 ≡ (i + 3) / 3 = omega arith in
+    subst (λ (k : ℕ). Seeking p l (i + 3) k) next (seek-on p l i (i / 3) h s e)
 
 pub seek-here : (p : ℕ → ℕ → ℕ → Bool) (l : List ℕ) (i k : ℕ) → i < length l → Seeking p l i k → p (getD l i 0) (getD l (i + 1) 0) (getD l (i + 2) 0) ≡ true →
     k ≡ first p l

@@ -1,4 +1,3 @@
 -- Laws of this room.
-pub mod BySlot
 pub mod Elsewhere
 pub mod Masked

@@ -65,23 +65,22 @@ fn stage1_of(state: State, regime: Regime) -> Company
 }
 
 // The lowest slot that matches, or the number of slots. The key is the part of a tag that says whose a slot is. Only a leaf of the own
-// processor and the company translates: one masked compare turns all other slots away.
+// processor and the company translates: one masked compare turns all other slots away. Words are counted, and not slots, so that a turn has one sum.
 fn first_match(table: &[u64], key: u64, own: u8, asid: u16, address: u64) -> usize
     requires { ⌜ (length (now table) % 3 ≡ 0) × (key % 2 ^ 4 ≡ layout) × (key < 2 ^ 26) ⌝ }
     ensures { λ r. ⌜ r ≡ first (matches (companyAt key) own asid address) (now (table .entry)) ⌝ }
 {
-    let n = table.len() / 3;
     let want = key + 0x2000000000000 + (own as u64) * 0x8000000000000;
-    let mut k = 0;
-    while k < n {
-        if table[3 * k + 1] & 0xFFFA000003FFFFFF == want {
-            if is_match(own, asid, address, table[3 * k], table[3 * k + 1]) {
-                return k;
+    let mut i = 0;
+    while i < table.len() {
+        if table[i + 1] & 0xFFFA000003FFFFFF == want {
+            if is_match(own, asid, address, table[i], table[i + 1]) {
+                return i / 3;
             }
         }
-        k += 1;
+        i += 3;
     }
-    k
+    i / 3
 }
 
 // Whether a slot translates the address. Its span turns most slots away before the rest is looked at.

@@ -1,19 +1,19 @@
 -- `insertion::insert::first_empty` meets its contract.
-use Prim.Native.Nat.{_*_, _-_}
+use Prim.Native.Nat.{_-_, _/_}
 use mathlib.Core.Bool.{not}
 use mathlib.Core.Path.{sym, ap, _∙_}
+use lib.ListN.{length}
 use borrow.Author.Needs.{needs}
-use Rattle.laws.proofs.Slots.{Seeking, seek-start}
+use Rattle.laws.proofs.Slots.{Seeking, seek-start, seek-next, seek-here, seek-end}
 use Rattle.machine.specs.Table.{isEmpty}
-use Rattle.tables.proofs.BySlot.{slot-on, slot-here, slot-end}
 use Rattle.insertion.proofs.insert.first_empty.Statement.{statement}
 use Rattle.insertion.proofs.insert.first_empty.Tie as tie
 
 abbrev Inv-loop : tie.InvT-loop
-Inv-loop table n k₀ k = Seeking isEmpty table (3 * k) k
+Inv-loop table i₀ i = Seeking isEmpty table i (i / 3)
 
 abbrev μ-loop : tie.MeasureT-loop
-μ-loop table n k₀ k = n - k
+μ-loop table i₀ i = length table - i
 
 loop-holds : tie.Need-loop-holds Inv-loop μ-loop
 loop-holds c = seek-start isEmpty (c .before .args .table .now) (c .before .pre)
@@ -21,20 +21,14 @@ loop-holds c = seek-start isEmpty (c .before .args .table .now) (c .before .pre)
 mul-is-entry : tie.Need-mul-is-entry Inv-loop μ-loop
 mul-is-entry c = search needs
 
-mul-is-entry-2 : tie.Need-mul-is-entry-2 Inv-loop μ-loop
-mul-is-entry-2 c = search needs
-
 shared-slice-read-is-entry : tie.Need-shared-slice-read-is-entry Inv-loop μ-loop
 shared-slice-read-is-entry c = search needs
-
-mul-is-entry-3 : tie.Need-mul-is-entry-3 Inv-loop μ-loop
-mul-is-entry-3 c = search needs
 
 add-is-entry : tie.Need-add-is-entry Inv-loop μ-loop
 add-is-entry c = search needs
 
-mul-is-entry-4 : tie.Need-mul-is-entry-4 Inv-loop μ-loop
-mul-is-entry-4 c = search needs
+mul-is-entry-2 : tie.Need-mul-is-entry-2 Inv-loop μ-loop
+mul-is-entry-2 c = search needs
 
 shared-slice-read-is-entry-2 : tie.Need-shared-slice-read-is-entry-2 Inv-loop μ-loop
 shared-slice-read-is-entry-2 c = search needs
@@ -43,19 +37,23 @@ is-entry-requires : tie.Need-is-entry-requires Inv-loop μ-loop
 is-entry-requires c κs = search needs
 
 returns : tie.Need-returns Inv-loop μ-loop
-returns c = slot-here isEmpty (c .before .before .before .before .before .before .before .args .table .now) (c .before .before .before .before .before .loop .k) (c .before .before .before .before .loop-test .taken) (c .before .before .before .before .before .loop .inv) (ap not (sym (c .before .is-entry .ensures)) ∙ c .if1 .taken)
+returns c =
+    let l = c .before .before .before .before .before .loop in
+    seek-here isEmpty (c .before .before .before .before .before .before .before .args .table .now) (l .i) (l .i / 3) (c .before .before .before .before .loop-test .taken) (l .inv) (ap not (sym (c .before .is-entry .ensures)) ∙ c .if1 .taken)
 
-add-k : tie.Need-add-k Inv-loop μ-loop
-add-k c = search needs
+add-i : tie.Need-add-i Inv-loop μ-loop
+add-i c = search needs
 
 loop-less : tie.Need-loop-less Inv-loop μ-loop
 loop-less c = search needs
 
 loop-again : tie.Need-loop-again Inv-loop μ-loop
-loop-again c = slot-on isEmpty (c .before .before .before .before .before .before .before .args .table .now) (c .before .before .before .before .before .loop .k) (c .before .before .before .before .loop-test .taken) (c .before .before .before .before .before .loop .inv) (ap not (sym (c .before .is-entry .ensures)) ∙ c .if1 .left)
+loop-again c =
+    let l = c .before .before .before .before .before .loop in
+    seek-next isEmpty (c .before .before .before .before .before .before .before .args .table .now) (l .i) (c .before .before .before .before .loop-test .taken) (l .inv) (ap not (sym (c .before .is-entry .ensures)) ∙ c .if1 .left)
 
 returns-2 : tie.Need-returns-2 Inv-loop μ-loop
-returns-2 c = slot-end isEmpty (c .before .before .before .args .table .now) (c .before .loop .k) (c .loop-test .left) (c .before .loop .inv)
+returns-2 c = let l = c .before .loop in seek-end isEmpty (c .before .before .before .args .table .now) (l .i) (l .i / 3) (c .loop-test .left) (l .inv)
 
 pub first-empty-spec : {M : Type 1} → statement M
 first-empty-spec =
@@ -65,15 +63,13 @@ first-empty-spec =
     μ-loop
     loop-holds
     mul-is-entry
-    mul-is-entry-2
     shared-slice-read-is-entry
-    mul-is-entry-3
     add-is-entry
-    mul-is-entry-4
+    mul-is-entry-2
     shared-slice-read-is-entry-2
     is-entry-requires
     returns
-    add-k
+    add-i
     loop-less
     loop-again
     returns-2)

@@ -1,23 +1,22 @@
 -- `tables::lookup::first_match` meets its contract.
-use Prim.Native.Nat.{_+_, _*_, _-_}
+use Prim.Native.Nat.{_+_, _-_, _/_}
 use mathlib.Core.Logic.{⊎-elim}
 use mathlib.Core.Path.{sym, _∙_}
-use lib.ListN.{getD}
+use lib.ListN.{length, getD}
 use borrow.Author.Needs.{needs}
-use Rattle.laws.proofs.Slots.{Seeking, seek-start}
+use Rattle.laws.proofs.Slots.{Seeking, seek-start, seek-next, seek-here, seek-end}
 use Rattle.machine.specs.Table.{matches}
 use Rattle.machine.specs.Tag.{companyAt}
-use Rattle.tables.proofs.BySlot.{slot-on, slot-here, slot-end}
 use Rattle.tables.proofs.Elsewhere.{match-key, match-elsewhere}
 use Rattle.tables.proofs.Masked.{wanted-key}
 use Rattle.tables.proofs.lookup.first_match.Statement.{statement}
 use Rattle.tables.proofs.lookup.first_match.Tie as tie
 
 abbrev Inv-loop : tie.InvT-loop
-Inv-loop table key own asid address n want k₀ k = Seeking (matches (companyAt key) own asid address) table (3 * k) k
+Inv-loop table key own asid address want i₀ i = Seeking (matches (companyAt key) own asid address) table i (i / 3)
 
 abbrev μ-loop : tie.MeasureT-loop
-μ-loop table key own asid address n want k₀ k = n - k
+μ-loop table key own asid address want i₀ i = length table - i
 
 add-want : tie.Need-add-want Inv-loop μ-loop
 add-want c = search needs
@@ -31,14 +30,11 @@ add-want-2 c = search needs
 loop-holds : tie.Need-loop-holds Inv-loop μ-loop
 loop-holds c = seek-start (matches (companyAt (c .before .args .key)) (c .before .args .own) (c .before .args .asid) (c .before .args .address)) (c .before .args .table .now) (c .before .pre .0)
 
-mul-if1 : tie.Need-mul-if1 Inv-loop μ-loop
-mul-if1 c = search needs
-
 add-if1 : tie.Need-add-if1 Inv-loop μ-loop
 add-if1 c = search needs
 
-mul-if1-2 : tie.Need-mul-if1-2 Inv-loop μ-loop
-mul-if1-2 c = search needs
+mul-if1 : tie.Need-mul-if1 Inv-loop μ-loop
+mul-if1 c = search needs
 
 shared-slice-read-if1 : tie.Need-shared-slice-read-if1 Inv-loop μ-loop
 shared-slice-read-if1 c = search needs
@@ -46,20 +42,14 @@ shared-slice-read-if1 c = search needs
 mul-is-match : tie.Need-mul-is-match Inv-loop μ-loop
 mul-is-match c = search needs
 
-mul-is-match-2 : tie.Need-mul-is-match-2 Inv-loop μ-loop
-mul-is-match-2 c = search needs
-
 shared-slice-read-is-match : tie.Need-shared-slice-read-is-match Inv-loop μ-loop
 shared-slice-read-is-match c = search needs
-
-mul-is-match-3 : tie.Need-mul-is-match-3 Inv-loop μ-loop
-mul-is-match-3 c = search needs
 
 add-is-match : tie.Need-add-is-match Inv-loop μ-loop
 add-is-match c = search needs
 
-mul-is-match-4 : tie.Need-mul-is-match-4 Inv-loop μ-loop
-mul-is-match-4 c = search needs
+mul-is-match-2 : tie.Need-mul-is-match-2 Inv-loop μ-loop
+mul-is-match-2 c = search needs
 
 shared-slice-read-is-match-2 : tie.Need-shared-slice-read-is-match-2 Inv-loop μ-loop
 shared-slice-read-is-match-2 c = search needs
@@ -73,15 +63,15 @@ returns c =
     let p = c .before .before .before .before .before .before .before .before .before .pre in
     let l = c .before .before .before .before .before .before .before .loop in
     let t = a .table .now in
-    let base = getD t (3 * l .k) 0 in
-    let tag = getD t (3 * l .k + 1) 0 in
-    let out = getD t (3 * l .k + 2) 0 in
+    let base = getD t (l .i) 0 in
+    let tag = getD t (l .i + 1) 0 in
+    let out = getD t (l .i + 2) 0 in
     let key = wanted-key (a .key) (a .own) tag (p .2) (c .before .before .before .before .if1 .taken) in
     let same = match-key (a .key) (a .own) (a .asid) (a .address) base tag out (p .1) (p .2) key in
-    slot-here (matches (companyAt (a .key)) (a .own) (a .asid) (a .address)) t (l .k) (c .before .before .before .before .before .before .loop-test .taken) (l .inv) (sym same ∙ sym (c .before .is-match .ensures) ∙ c .if2 .taken)
+    seek-here (matches (companyAt (a .key)) (a .own) (a .asid) (a .address)) t (l .i) (l .i / 3) (c .before .before .before .before .before .before .loop-test .taken) (l .inv) (sym same ∙ sym (c .before .is-match .ensures) ∙ c .if2 .taken)
 
-add-k : tie.Need-add-k Inv-loop μ-loop
-add-k c = search needs
+add-i : tie.Need-add-i Inv-loop μ-loop
+add-i c = search needs
 
 loop-less : tie.Need-loop-less Inv-loop μ-loop
 loop-less c = search needs
@@ -92,10 +82,10 @@ loop-again c =
     let p = c .before .before .before .before .before .pre in
     let l = c .before .before .before .loop in
     let t = a .table .now in
-    let base = getD t (3 * l .k) 0 in
-    let tag = getD t (3 * l .k + 1) 0 in
-    let out = getD t (3 * l .k + 2) 0 in
-    slot-on (matches (companyAt (a .key)) (a .own) (a .asid) (a .address)) t (l .k) (c .before .before .loop-test .taken) (l .inv)
+    let base = getD t (l .i) 0 in
+    let tag = getD t (l .i + 1) 0 in
+    let out = getD t (l .i + 2) 0 in
+    seek-next (matches (companyAt (a .key)) (a .own) (a .asid) (a .address)) t (l .i) (c .before .before .loop-test .taken) (l .inv)
     (⊎-elim
     (λ y. sym (match-key (a .key) (a .own) (a .asid) (a .address) base tag out (p .1) (p .2) (wanted-key (a .key) (a .own) tag (p .2) (y .0 .taken))) ∙ sym (y .3 .ensures) ∙ y .4 .left)
     (λ y. match-elsewhere (a .key) (a .own) (a .asid) (a .address) base tag out (p .1) (p .2) (y .left))
@@ -104,7 +94,8 @@ loop-again c =
 returns-2 : tie.Need-returns-2 Inv-loop μ-loop
 returns-2 c =
     let a = c .before .before .before .args in
-    slot-end (matches (companyAt (a .key)) (a .own) (a .asid) (a .address)) (a .table .now) (c .before .loop .k) (c .loop-test .left) (c .before .loop .inv)
+    let l = c .before .loop in
+    seek-end (matches (companyAt (a .key)) (a .own) (a .asid) (a .address)) (a .table .now) (l .i) (l .i / 3) (c .loop-test .left) (l .inv)
 
 pub first-match-spec : {M : Type 1} → statement M
 first-match-spec =
@@ -116,20 +107,17 @@ first-match-spec =
     mul-want
     add-want-2
     loop-holds
-    mul-if1
     add-if1
-    mul-if1-2
+    mul-if1
     shared-slice-read-if1
     mul-is-match
-    mul-is-match-2
     shared-slice-read-is-match
-    mul-is-match-3
     add-is-match
-    mul-is-match-4
+    mul-is-match-2
     shared-slice-read-is-match-2
     is-match-requires
     returns
-    add-k
+    add-i
     loop-less
     loop-again
     returns-2)
