@@ -1,3 +1,4 @@
 -- Laws of this room.
 pub mod Apart
 pub mod Keyed
+pub mod Rows

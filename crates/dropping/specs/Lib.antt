@@ -1,2 +1,2 @@
 -- What the contracts of this room cite.
-pub mod Lows
+pub mod Ends

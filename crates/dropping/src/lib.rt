@@ -1,5 +1,5 @@
 // Dropping: one pass over a table, which clears the entries that go.
-mod lows;
+mod ends;
 mod slots;
 
 pub use slots::drop_all;

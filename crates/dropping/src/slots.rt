@@ -7,8 +7,9 @@ ghost use Rattle.laws.specs.Slots.{count, cleared};
 ghost use Rattle.machine.specs.Entry.{isCompany};
 ghost use Rattle.machine.specs.Goes.{keyOf, drops};
 ghost use Rattle.machine.specs.Tag.{companyTag};
-ghost use Rattle.dropping.specs.Lows.{AreLows};
-use crate::lows::lows_of;
+ghost use Rattle.dropping.specs.Ends.{AreEnds};
+use crate::ends::ends_of;
+use crate::ends::is_before;
 use machine::Work;
 use tags::company_tag;
 use tags::entry_at;
@@ -22,12 +23,12 @@ pub fn drop_all(table: &mut [u64], work: Work) -> usize
     ensures { λ r. ⌜ now (table .exit) ≡ cleared (drops work) (now (table .entry)) ⌝ }
 {
     let key = key_of(work);
-    let lows = lows_of(work);
+    let ends = ends_of(work.granule);
     let mut i = 0;
     let mut n = 0;
     while i < table.len() {
         if table[i + 1] % 0x10000000 == key {
-            if is_dropped(work, &lows, table[i], table[i + 1]) {
+            if is_dropped(work, &ends, table[i], table[i + 1]) {
                 table[i] = 0;
                 table[i + 1] = 0;
                 table[i + 2] = 0;
@@ -49,8 +50,8 @@ fn key_of(work: Work) -> u64
 }
 
 // A slot with the key is turned away by its range before the rest of it is looked at, and the key is not looked at again.
-fn is_dropped(work: Work, lows: &[u64; 16], base: u64, tag: u64) -> bool
-    requires { ⌜ (tag % 2 ^ 28 ≡ keyOf work) × (companyTag (work .company) < 2 ^ 26) × (work .company .vmid < 2 ^ 16) × AreLows work (now lows) ⌝ }
+fn is_dropped(work: Work, ends: &[u64; 16], base: u64, tag: u64) -> bool
+    requires { ⌜ (tag % 2 ^ 28 ≡ keyOf work) × (companyTag (work .company) < 2 ^ 26) × (work .company .vmid < 2 ^ 16) × AreEnds (work .granule) (now ends) ⌝ }
     requires { ⌜ (1 ≤ work .granule) × (work .granule ≤ 3) × (isCompany (work .company) ≡ true) ⌝ }
     ensures { λ r. ⌜ r ≡ drops work base tag 0 ⌝ }
 {
@@ -58,7 +59,7 @@ fn is_dropped(work: Work, lows: &[u64; 16], base: u64, tag: u64) -> bool
         return false;
     }
     let x = (tag / 0x200000000000 % 16) as usize;
-    if base < lows[x] {
+    if is_before(base, ends[x], work.first) {
         return false;
     }
     if !is_rest(base, tag) {

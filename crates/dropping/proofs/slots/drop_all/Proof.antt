@@ -12,16 +12,16 @@ use Rattle.dropping.proofs.slots.drop_all.Statement.{statement}
 use Rattle.dropping.proofs.slots.drop_all.Tie as tie
 
 abbrev Inv-loop : tie.InvT-loop
-Inv-loop table₀ work key lows i₀ n₀ table i n = Clearing (drops work) table₀ table i n
+Inv-loop table₀ work key ends i₀ n₀ table i n = Clearing (drops work) table₀ table i n
 
 abbrev μ-loop : tie.MeasureT-loop
-μ-loop table₀ work key lows i₀ n₀ table i n = length table - i
+μ-loop table₀ work key ends i₀ n₀ table i n = length table - i
 
 key-of-requires : tie.Need-key-of-requires Inv-loop μ-loop
 key-of-requires c κs = search needs
 
-lows-of-requires : tie.Need-lows-of-requires Inv-loop μ-loop
-lows-of-requires c κs = search needs
+ends-of-requires : tie.Need-ends-of-requires Inv-loop μ-loop
+ends-of-requires c κs = search needs
 
 loop-holds : tie.Need-loop-holds Inv-loop μ-loop
 loop-holds c = let a = c .before .before .before .args in clear-start (drops (a .work)) (a .table .now) (c .before .before .before .pre .0)
@@ -54,8 +54,8 @@ is-dropped-requires : tie.Need-is-dropped-requires Inv-loop μ-loop
 is-dropped-requires c κs =
     let start = c .before .before .before .before .before .before .before .before .before .before in
     let key = c .before .before .before .before .before .before .before .before .key-of .ensures in
-    let lows = c .before .before .before .before .before .before .before .lows-of .ensures in
-    ((c .before .before .before .if1 .taken ∙ key .0, key .1, key .2, lows), (start .pre .1, start .pre .2, start .pre .3))
+    let ends = c .before .before .before .before .before .before .before .ends-of .ensures in
+    ((c .before .before .before .if1 .taken ∙ key .0, key .1, key .2, ends), (start .pre .1, start .pre .2, start .pre .3))
 
 mul-table : tie.Need-mul-table Inv-loop μ-loop
 mul-table c = search needs
@@ -125,7 +125,7 @@ drop-all-spec =
     Inv-loop
     μ-loop
     key-of-requires
-    lows-of-requires
+    ends-of-requires
     loop-holds
     add-if1
     mul-if1
