@@ -14,7 +14,11 @@ use machine::Work;
 use tags::company_tag;
 use tags::entry_at;
 use tags::is_rest;
+use tags::past_others;
 use works::goes;
+
+// The key of a work stands in the lower 28 bits of a tag.
+const KEY_BITS: u64 = 0xFFFFFFF;
 
 // Three zeros for each slot that is dropped, and how many there are. One compare turns away the slots of other companies and granules.
 pub fn drop_all(table: &mut [u64], work: Work) -> usize
@@ -27,13 +31,15 @@ pub fn drop_all(table: &mut [u64], work: Work) -> usize
     let mut i = 0;
     let mut n = 0;
     while i < table.len() {
-        if table[i + 1] % 0x10000000 == key {
+        if table[i + 1] & KEY_BITS == key {
             if is_dropped(work, &ends, table[i], table[i + 1]) {
                 table[i] = 0;
                 table[i + 1] = 0;
                 table[i + 2] = 0;
                 n += 1;
             }
+        } else {
+            i = past_others(table, i, KEY_BITS, key);
         }
         i += 3;
     }

@@ -8,4 +8,5 @@ pub mod Aligned
 pub mod Slots
 pub mod Any
 pub mod Clearing
+pub mod Passing
 pub mod Sevens

@@ -3,3 +3,4 @@ pub mod Every
 pub mod Mask
 pub mod Bits
 pub mod Slots
+pub mod Passed

@@ -23,7 +23,11 @@ use spans::in_span;
 use tags::company_tag;
 use tags::entry_at;
 use tags::is_entry;
+use tags::past_others;
 use tags::span_at;
+
+// What a tag says of a leaf and whose it is: the processor and all above it, the leaf bit, and the company.
+const OWN_LEAF: u64 = 0xFFFA000003FFFFFF;
 
 pub fn look_up(table: &[u64], state: State, regime: Regime, asid: u16, address: u64) -> LookedUp
     ensures { λ r. ⌜ r ≡ lookedUpOf state regime asid address (now (table .entry)) ⌝ }
@@ -65,7 +69,8 @@ fn stage1_of(state: State, regime: Regime) -> Company
 }
 
 // The lowest slot that matches, or the number of slots. The key is the part of a tag that says whose a slot is. Only a leaf of the own
-// processor and the company translates: one masked compare turns all other slots away. Words are counted, and not slots, so that a turn has one sum.
+// processor and the company translates: one masked compare turns all other slots away. Words are counted, and not slots, so that a turn has
+// one sum.
 fn first_match(table: &[u64], key: u64, own: u8, asid: u16, address: u64) -> usize
     requires { ⌜ (length (now table) % 3 ≡ 0) × (key % 2 ^ 4 ≡ layout) × (key < 2 ^ 26) ⌝ }
     ensures { λ r. ⌜ r ≡ first (matches (companyAt key) own asid address) (now (table .entry)) ⌝ }
@@ -73,10 +78,12 @@ fn first_match(table: &[u64], key: u64, own: u8, asid: u16, address: u64) -> usi
     let want = key + 0x2000000000000 + (own as u64) * 0x8000000000000;
     let mut i = 0;
     while i < table.len() {
-        if table[i + 1] & 0xFFFA000003FFFFFF == want {
+        if table[i + 1] & OWN_LEAF == want {
             if is_match(own, asid, address, table[i], table[i + 1]) {
                 return i / 3;
             }
+        } else {
+            i = past_others(table, i, OWN_LEAF, want);
         }
         i += 3;
     }

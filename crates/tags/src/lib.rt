@@ -1,5 +1,6 @@
 // Tags: a slot's base and tag written from an entry, and read as one.
 mod number;
+mod passing;
 mod slot;
 mod tag;
 
@@ -8,6 +9,7 @@ pub use number::regime_at;
 pub use number::regime_number;
 pub use number::security_at;
 pub use number::security_number;
+pub use passing::past_others;
 pub use slot::entry_at;
 pub use slot::is_entry;
 pub use slot::is_rest;

@@ -1,13 +1,16 @@
 -- `dropping::slots::drop_all` meets its contract.
-use Prim.Native.Nat.{_+_, _-_}
+use Prim.Native.Nat.{ℕ, _-_, _%_, _^_, _≤_}
+use mathlib.Core.Bool.{false}
 use mathlib.Core.Logic.{⊎-elim}
-use mathlib.Core.Path.{sym, _∙_}
+use mathlib.Core.Path.{_≡_, sym, _∙_}
 use native.Mathlib.Omega.{arith}
-use lib.ListN.{length, getD, length-set}
+use lib.Bits.{bitAnd, and-mask}
+use lib.ListN.{length, length-set}
 use borrow.Author.Needs.{needs}
 use Rattle.laws.proofs.Clearing.{Clearing, clear-start, clear-drop, clear-keep, clear-end}
+use Rattle.laws.proofs.Passing.{clear-passed}
 use Rattle.machine.proofs.Going.{drop-other}
-use Rattle.machine.specs.Goes.{drops}
+use Rattle.machine.specs.Goes.{keyOf, drops}
 use Rattle.dropping.proofs.slots.drop_all.Statement.{statement}
 use Rattle.dropping.proofs.slots.drop_all.Tie as tie
 
@@ -55,7 +58,7 @@ is-dropped-requires c κs =
     let start = c .before .before .before .before .before .before .before .before .before .before in
     let key = c .before .before .before .before .before .before .before .before .key-of .ensures in
     let ends = c .before .before .before .before .before .before .before .ends-of .ensures in
-    ((c .before .before .before .if1 .taken ∙ key .0, key .1, key .2, ends), (start .pre .1, start .pre .2, start .pre .3))
+    ((sym (and-mask _ 28) ∙ c .before .before .before .if1 .taken ∙ key .0, key .1, key .2, ends), (start .pre .1, start .pre .2, start .pre .3))
 
 mul-table : tie.Need-mul-table Inv-loop μ-loop
 mul-table c = search needs
@@ -84,30 +87,41 @@ slice-write-table-3 c = simp length-set (omega arith)
 add-n : tie.Need-add-n Inv-loop μ-loop
 add-n c = search needs
 
-add-i : tie.Need-add-i Inv-loop μ-loop
-add-i c = search needs
+past-others-requires : tie.Need-past-others-requires Inv-loop μ-loop
+past-others-requires c κs =
+    let l = c .before .before .before .before .loop in
+    (l .inv .1, l .inv .3, c .before .before .before .loop-test .taken)
 
 loop-again : tie.Need-loop-again Inv-loop μ-loop
 unfolding drops
 loop-again c =
-    let a = c .before .before .before .before .before .before .before .args in
+    let a = c .before .before .before .before .before .before .before .before .args in
     let w = a .work in
     let t = a .table .now in
-    let l = c .before .before .before .loop in
-    let k = c .before .before .before .before .before .key-of .ensures in
-    let on = c .before .before .loop-test .taken in
+    let l = c .before .before .before .before .loop in
+    let key = c .before .before .before .before .before .before .key-of .result in
+    let k = c .before .before .before .before .before .before .key-of .ensures in
+    let other : (b g o : ℕ) → (bitAnd g 0xFFFFFFF ≡ key → ⊥) → drops w b g o ≡ false =
+    λ (b g o : ℕ) (d : bitAnd g 0xFFFFFFF ≡ key → ⊥). drop-other w b g o (λ (e : g % 2 ^ 28 ≡ keyOf w). d (and-mask g 28 ∙ e ∙ sym (k .0))) (k .2) in
+    let on = c .before .before .before .loop-test .taken in
     ⊎-elim
-    (λ y. rw (y .6, y .7) (clear-drop (drops w) t (l .table) (l .i) (l .n) on (l .inv) (sym (y .4 .ensures) ∙ y .5 .taken)))
+    (λ y. rw (y .6, y .7, y .8) (clear-drop (drops w) t (l .table) (l .i) (l .n) on (l .inv) (sym (y .4 .ensures) ∙ y .5 .taken)))
     (⊎-elim
-    (λ y. rw (y .6, y .7) (clear-keep (drops w) t (l .table) (l .i) (l .n) on (l .inv) (sym (y .4 .ensures) ∙ y .5 .left)))
-    (λ y. rw (y .1, y .2) (clear-keep (drops w) t (l .table) (l .i) (l .n) on (l .inv) (drop-other w (getD (l .table) (l .i) 0) (getD (l .table) (l .i + 1) 0) 0 (λ e. y .0 .left (e ∙ sym (k .0))) (k .2)))))
-    (c .if1 .came)
+    (λ y. rw (y .6, y .7, y .8) (clear-keep (drops w) t (l .table) (l .i) (l .n) on (l .inv) (sym (y .4 .ensures) ∙ y .5 .left)))
+    (λ y. rw (y .3, y .4, y .5) (clear-passed (drops w) 0xFFFFFFF key other t (l .table) (l .i) (y .2 .result) (l .n) (y .0 .left) (y .2 .ensures) (l .inv))))
+    (c .before .if1 .came)
+
+-- the turn has stayed in the table, so no sum wraps
+add-i : tie.Need-add-i Inv-loop μ-loop
+add-i c = let s = loop-again c in search (needs, s .0, s .2)
 
 loop-less : tie.Need-loop-less Inv-loop μ-loop
 loop-less c =
     let s = loop-again c in
-    let l = c .before .before .before .loop in
-    omega (arith, s .0, l .inv .0, c .before .before .loop-test .taken)
+    let l = c .before .before .before .before .loop in
+    let on : l .i ≤ c .before .if1 .i =
+    ⊎-elim (λ y. omega (arith, y .7)) (⊎-elim (λ y. omega (arith, y .7)) (λ y. omega (arith, y .4, y .2 .ensures .from))) (c .before .if1 .came) in
+    omega (arith, s .0, l .inv .0, c .before .before .before .loop-test .taken, on)
 
 same-length : tie.Need-same-length Inv-loop μ-loop
 same-length c = search needs
@@ -145,6 +159,7 @@ drop-all-spec =
     mul-table-3
     slice-write-table-3
     add-n
+    past-others-requires
     add-i
     loop-less
     loop-again

@@ -1,0 +1,88 @@
+-- `tags::passing::past_others` meets its contract.
+use Prim.Native.Nat.{_-_}
+use native.Mathlib.Omega.{arith}
+use lib.ListN.{length}
+use borrow.Author.Needs.{needs}
+use Rattle.laws.proofs.Passing.{pass-start, pass-more, pass-two}
+use Rattle.laws.specs.Passed.{Passed}
+use Rattle.tags.proofs.passing.past_others.Statement.{statement}
+use Rattle.tags.proofs.passing.past_others.Tie as tie
+
+abbrev Inv-loop : tie.InvT-loop
+Inv-loop table from mask key i₀ i = Passed mask key table from i
+
+abbrev μ-loop : tie.MeasureT-loop
+μ-loop table from mask key i₀ i = length table - i
+
+loop-holds : tie.Need-loop-holds Inv-loop μ-loop
+loop-holds c = pass-start (c .args .mask) (c .args .key) (c .args .table .now) (c .args .from) (c .pre .1) (c .pre .2)
+
+add-loop : tie.Need-add-loop Inv-loop μ-loop
+add-loop c = search needs
+
+add-if1 : tie.Need-add-if1 Inv-loop μ-loop
+add-if1 c = search needs
+
+mul-if1 : tie.Need-mul-if1 Inv-loop μ-loop
+mul-if1 c = search needs
+
+shared-slice-read-if1 : tie.Need-shared-slice-read-if1 Inv-loop μ-loop
+shared-slice-read-if1 c = search needs
+
+returns : tie.Need-returns Inv-loop μ-loop
+returns c = c .before .before .before .loop .inv
+
+add-if2 : tie.Need-add-if2 Inv-loop μ-loop
+add-if2 c = search needs
+
+mul-if2 : tie.Need-mul-if2 Inv-loop μ-loop
+mul-if2 c = search needs
+
+shared-slice-read-if2 : tie.Need-shared-slice-read-if2 Inv-loop μ-loop
+shared-slice-read-if2 c = search needs
+
+add-result : tie.Need-add-result Inv-loop μ-loop
+add-result c = search needs
+
+returns-2 : tie.Need-returns-2 Inv-loop μ-loop
+returns-2 c =
+    let a = c .before .before .before .before .before .before .args in
+    let l = c .before .before .before .before .before .loop in
+    pass-more (a .mask) (a .key) (a .table .now) (a .from) (l .i) (l .inv) (omega (arith, c .before .before .before .before .loop-test .taken)) (c .before .before .if1 .left)
+
+add-i : tie.Need-add-i Inv-loop μ-loop
+add-i c = search needs
+
+loop-less : tie.Need-loop-less Inv-loop μ-loop
+loop-less c = search needs
+
+loop-again : tie.Need-loop-again Inv-loop μ-loop
+loop-again c =
+    let a = c .before .before .before .before .before .before .args in
+    let l = c .before .before .before .before .before .loop in
+    pass-two (a .mask) (a .key) (a .table .now) (a .from) (l .i) (l .inv) (c .before .before .before .before .loop-test .taken) (c .before .before .if1 .left) (c .if2 .left)
+
+returns-3 : tie.Need-returns-3 Inv-loop μ-loop
+returns-3 c = c .before .loop .inv
+
+pub past-others-spec : {M : Type 1} → statement M
+past-others-spec =
+    tie.close
+    (tie.spec
+    Inv-loop
+    μ-loop
+    loop-holds
+    add-loop
+    add-if1
+    mul-if1
+    shared-slice-read-if1
+    returns
+    add-if2
+    mul-if2
+    shared-slice-read-if2
+    add-result
+    returns-2
+    add-i
+    loop-less
+    loop-again
+    returns-3)

@@ -1,0 +1,24 @@
+// Slots that are passed by a part of their tags.
+ghost use Prim.Native.Nat.{_%_, _<_};
+ghost use mathlib.Core.Path.{_≡_};
+ghost use lib.ListN.{length};
+ghost use Rattle.laws.specs.Passed.{Passed};
+
+// The last of the slots behind one slot that are passed, none of which has the key under the mask. Two of them are looked at in a turn: a turn
+// for each takes up to twice as long where its code lies across two lines of the cache, which is chance.
+pub fn past_others(table: &[u64], from: usize, mask: u64, key: u64) -> usize
+    requires { ⌜ (length (now table) % 3 ≡ 0) × (from % 3 ≡ 0) × (from < length (now table)) ⌝ }
+    ensures { λ r. ⌜ Passed mask key (now (table .entry)) from r ⌝ }
+{
+    let mut i = from;
+    while i + 6 < table.len() {
+        if table[i + 4] & mask == key {
+            return i;
+        }
+        if table[i + 7] & mask == key {
+            return i + 3;
+        }
+        i += 6;
+    }
+    i
+}
