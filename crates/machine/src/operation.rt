@@ -29,12 +29,13 @@ pub enum Share {
     Outer,
 }
 
-// TLBI, or TLBIP where `tlbip` holds; `rt` is 0 to 31 in every word.
+// TLBI, or TLBIP where `tlbip` holds; `rt` is 0 to 31 in every word. In this order the compiler loads each part by itself: two at once would
+// wait for the stores of one byte each that wrote them.
 pub struct Operation {
-    pub name: Name,
-    pub share: Share,
-    pub nxs: bool,
     pub tlbip: bool,
+    pub nxs: bool,
+    pub share: Share,
+    pub name: Name,
     pub rt: u8,
 }
 
