@@ -3,12 +3,13 @@ use Prim.Native.Nat.{ℕ, zero, suc, _+_, _*_, _-_, _/_, _%_, _^_, _<_, _≤_, m
 use mathlib.Core.Bool.{Bool, true, false, cond, _&&_, _||_}
 use mathlib.Core.Path.{_≡_, refl, sym, ap, ap₂, _∙_}
 use native.Mathlib.Decide.{ℕ-discrete, decLt}
-use native.Mathlib.Nat.{pow-succ', mul-assoc, mod-lt, zero-min, div-eq-of-lt}
+use native.Mathlib.Nat.{pow-succ', mul-assoc, mul-comm, mul-zero, mod-lt, mod-eq-of-lt, zero-min, div-eq-of-lt, div-one}
 use native.Mathlib.Omega.{arith}
 use lib.Bits.{bitAnd, bitOr, and-step, and-shr, or-step, or-shr}
-use lib.Dec.{eqb}
-use lib.Pow.{mod-pow-add, shr-shr, shl-shr, pow-add, pow-lt, split}
-use borrow.Author.Tests.{eq-eqb, ne-eqb}
+use lib.Dec.{eqb, ltb}
+use lib.Pow.{mod-pow-add, shr-shr, shl-shr, pow-add, pow-lt, split, low}
+use borrow.Author.Tests.{eq-eqb, ne-eqb, lt-ltb, le-ltb}
+use Rattle.laws.proofs.Mask.{mask-below}
 use Rattle.laws.specs.Mask.{bitOf, maskFrom}
 
 -- the bits from l on are the next m, and those above them
@@ -45,6 +46,15 @@ mask-within f g p (suc n) h =
     mask-within f g (suc p) n (λ (k : ℕ) (l : suc p ≤ k) (u : k < suc p + n). h k (omega arith) (omega arith)) in
     ap₂ (λ (b : Bool) (m : ℕ). cond b 1 0 + 2 * m) first rest
 
+-- a test that holds at none of them gives 0
+pub mask-nowhere : (f : ℕ → Bool) (p n : ℕ) → ((k : ℕ) → p ≤ k → k < p + n → f k ≡ false) → maskFrom f p n ≡ 0
+unfolding maskFrom
+mask-nowhere f p n h = mask-within f (λ (i : ℕ). false) p n h ∙ zeros p n
+  where
+    zeros : (p n : ℕ) → maskFrom (λ i. false) p n ≡ 0
+    zeros p zero = refl
+    zeros p (suc n) = ap (λ (m : ℕ). 0 + 2 * m) (zeros (suc p) n)
+
 -- the bits of x from p on, n of them, are their own mask
 pub mask-bits : (x p n : ℕ) → maskFrom (bitOf x) p n ≡ x / 2 ^ p % 2 ^ n
 unfolding maskFrom
@@ -79,15 +89,47 @@ mask-if x p n true = mask-within (λ (i : ℕ). bitOf x i && true) (bitOf x) p n
     stay : (c : Bool) → (c && true) ≡ c
     stay true = refl
     stay false = refl
-mask-if x p n false = mask-within (λ (i : ℕ). bitOf x i && false) (λ (i : ℕ). false) p n (λ (k : ℕ) (l : p ≤ k) (u : k < p + n). go (bitOf x k)) ∙ zeros p n
+mask-if x p n false = mask-nowhere (λ (i : ℕ). bitOf x i && false) p n (λ (k : ℕ) (l : p ≤ k) (u : k < p + n). go (bitOf x k))
   where
     go : (c : Bool) → (c && false) ≡ false
     go true = refl
     go false = refl
 
-    zeros : (p n : ℕ) → maskFrom (λ i. false) p n ≡ 0
-    zeros p zero = refl
-    zeros p (suc n) = ap (λ (m : ℕ). 0 + 2 * m) (zeros (suc p) n)
+-- the numbers below c of a mask of at least as many are its remainder
+mask-part : (f : ℕ → Bool) (c n : ℕ) → c ≤ n → maskFrom (λ (p : ℕ). ltb p c && f p) 0 n ≡ maskFrom f 0 n % 2 ^ c
+mask-part f c n h =
+    let e : n ≡ c + (n - c) = omega arith in
+    let g : ℕ → Bool = λ (p : ℕ). ltb p c && f p in
+    let low-part : maskFrom g 0 c ≡ maskFrom f 0 c =
+    mask-within g f 0 c (λ (k : ℕ) (l : 0 ≤ k) (u : k < 0 + c). ap (λ (b : Bool). b && f k) (lt-ltb k c (omega arith))) in
+    let high-part : maskFrom g (0 + c) (n - c) ≡ 0 =
+    mask-nowhere g (0 + c) (n - c) (λ (k : ℕ) (l : 0 + c ≤ k) (u : k < 0 + c + (n - c)). ap (λ (b : Bool). b && f k) (le-ltb k c (omega arith))) in
+    ap (maskFrom g 0) e
+    ∙ mask-cut g 0 c (n - c)
+    ∙ ap₂ (λ (a b : ℕ). a + 2 ^ c * b) low-part high-part
+    ∙ none (maskFrom f 0 c)
+    ∙ sym (low (maskFrom f (0 + c) (n - c)) c (mask-below f 0 c))
+    ∙ ap (λ (x : ℕ). x % 2 ^ c) (turn (maskFrom f 0 c) (maskFrom f (0 + c) (n - c)) ∙ sym (mask-cut f 0 c (n - c)) ∙ ap (maskFrom f 0) (sym e))
+  where
+    none : (a : ℕ) → a + 2 ^ c * 0 ≡ a
+    none a = let z : 2 ^ c * 0 ≡ 0 = mul-zero (2 ^ c) in omega arith
+
+    turn : (a b : ℕ) → b * 2 ^ c + a ≡ a + 2 ^ c * b
+    turn a b = let z : b * 2 ^ c ≡ 2 ^ c * b = mul-comm b (2 ^ c) in omega arith
+
+-- and so of any mask
+pub mask-under : (f : ℕ → Bool) (c n : ℕ) → maskFrom (λ (p : ℕ). ltb p c && f p) 0 n ≡ maskFrom f 0 n % 2 ^ c
+mask-under f c n = go (decLt n c)
+  where
+    all : n < c → maskFrom (λ (p : ℕ). ltb p c && f p) 0 n ≡ maskFrom f 0 n % 2 ^ c
+    all h =
+        let l : maskFrom f 0 n < 2 ^ c = omega (arith, mask-below f 0 n, pow-lt {i = n} {j = c} h) in
+        mask-within (λ (p : ℕ). ltb p c && f p) f 0 n (λ (k : ℕ) (l : 0 ≤ k) (u : k < 0 + n). ap (λ (b : Bool). b && f k) (lt-ltb k c (omega arith)))
+        ∙ sym (mod-eq-of-lt l)
+
+    go : Dec (n < c) → maskFrom (λ (p : ℕ). ltb p c && f p) 0 n ≡ maskFrom f 0 n % 2 ^ c
+    go (yes h) = all h
+    go (no h) = mask-part f c n (omega arith)
 
 -- a bit that two numbers have in common
 pub and-bit : (a b p : ℕ) → bitOf (bitAnd a b) p ≡ (bitOf a p && bitOf b p)
@@ -149,3 +191,15 @@ power-bit k p = go (ℕ-discrete k p)
     go : Dec (k ≡ p) → bitOf (2 ^ k) p ≡ eqb k p
     go (yes e) = ap (λ (y : ℕ). bitOf (2 ^ y) p) e ∙ own ∙ sym (eq-eqb k p e)
     go (no d) = side d (decLt k p) ∙ sym (ne-eqb k p d)
+
+-- the mask of one number below n
+pub mask-one : (k n : ℕ) → k < n → maskFrom (λ (p : ℕ). eqb p k) 0 n ≡ 2 ^ k
+mask-one k n h =
+    mask-within (λ (p : ℕ). eqb p k) (bitOf (2 ^ k)) 0 n (λ (p : ℕ) (l : 0 ≤ p) (u : p < 0 + n). turned (ℕ-discrete p k) ∙ sym (power-bit k p))
+    ∙ mask-bits (2 ^ k) 0 n
+    ∙ ap (λ (x : ℕ). x % 2 ^ n) (div-one (2 ^ k))
+    ∙ mod-eq-of-lt (pow-lt h)
+  where
+    turned : {p : ℕ} → Dec (p ≡ k) → eqb p k ≡ eqb k p
+    turned {p} (yes e) = eq-eqb p k e ∙ sym (eq-eqb k p (sym e))
+    turned {p} (no d) = ne-eqb p k d ∙ sym (ne-eqb k p (λ (e : k ≡ p). d (sym e)))

@@ -1,8 +1,11 @@
 // The processors that an operation reaches.
 ghost use mathlib.Core.Path.{_≡_};
 ghost use mathlib.Core.Bool.{cond};
-ghost use Prim.Native.Nat.{_≤_};
-ghost use Rattle.machine.specs.Access.{reachesBy, reaches, reachedOf};
+ghost use Prim.Native.Nat.{ℕ, _%_, _^_, _≤_, _<_};
+ghost use lib.Dec.{eqb};
+ghost use lib.ListN.{getD};
+ghost use Rattle.laws.specs.Mask.{maskFrom};
+ghost use Rattle.machine.specs.Access.{reachesBy, reachedOf};
 use machine::Board;
 use machine::Operation;
 use machine::Share;
@@ -13,11 +16,44 @@ use processor::domain_at;
 pub fn reached_by(state: State, op: Operation) -> u64
     ensures { λ r. ⌜ r ≡ reachedOf state op ⌝ }
 {
+    let share = op.share;
+    let eight = reached_of_eight(share, state.board);
+    below(eight, state.board.count)
+}
+
+// The same of all eight numbers that a processor can have, whatever the count.
+fn reached_of_eight(share: Share, board: Board) -> u64
+    ensures { λ r. ⌜ (r ≡ maskFrom (reachesBy share board) 0 8) × (r < 256) ⌝ }
+{
+    let own = board.own;
+    let inner = board.inner;
+    let outer = board.outer;
+    match share {
+        Share::Local => only(own),
+        Share::Inner => mates(inner, own),
+        Share::Outer => mates(outer, own),
+    }
+}
+
+fn only(own: u8) -> u64
+    ensures { λ r. ⌜ (r ≡ maskFrom (λ (p : ℕ). eqb p own) 0 8) × (r < 256) ⌝ }
+{
+    if own < 8 {
+        return 1 << (own as u64);
+    }
+    0
+}
+
+// Those in the own domain, which is looked up once.
+fn mates(domains: [u8; 8], own: u8) -> u64
+    ensures { λ r. ⌜ (r ≡ maskFrom (λ (p : ℕ). eqb (getD domains p 0) (getD domains own 0)) 0 8) × (r < 256) ⌝ }
+{
+    let domain = domain_at(domains, own);
     let mut mask = 0;
     let mut p = 8;
     while 0 < p {
         p -= 1;
-        mask = one_if(is_reached(state, op, p)) + 2 * mask;
+        mask = one_if(domain_at(domains, p) == domain) + 2 * mask;
     }
     mask
 }
@@ -28,23 +64,13 @@ fn one_if(bit: bool) -> u64
     if bit { 1 } else { 0 }
 }
 
-fn is_reached(state: State, op: Operation, p: u8) -> bool
-    ensures { λ r. ⌜ r ≡ reaches state op p ⌝ }
+// The bits below the count.
+fn below(eight: u64, count: u8) -> u64
+    requires { ⌜ eight < 256 ⌝ }
+    ensures { λ r. ⌜ r ≡ eight % 2 ^ count ⌝ }
 {
-    let share = op.share;
-    let reached = reaches_by(share, state.board, p);
-    (p < state.board.count) & reached
-}
-
-fn reaches_by(share: Share, board: Board, p: u8) -> bool
-    ensures { λ r. ⌜ r ≡ reachesBy share board p ⌝ }
-{
-    let own = board.own;
-    let inner = board.inner;
-    let outer = board.outer;
-    match share {
-        Share::Local => p == own,
-        Share::Inner => domain_at(inner, p) == domain_at(inner, own),
-        Share::Outer => domain_at(outer, p) == domain_at(outer, own),
+    if count < 8 {
+        return eight % (1 << (count as u64));
     }
+    eight
 }
