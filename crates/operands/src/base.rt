@@ -3,13 +3,13 @@ ghost use Prim.Native.Nat.{_+_, _-_, _/_, _%_, _^_, _≤_, _<_};
 ghost use mathlib.Core.Bool.{cond};
 ghost use mathlib.Core.Path.{_≡_};
 ghost use Rattle.laws.specs.Bits.{down};
-ghost use Rattle.machine.specs.Operand.{granuleExponent, unitExponent, extend, addressOf, fieldOf, baseIn};
+ghost use Rattle.machine.specs.Operand.{granuleExponent, unitExponent, extend, addressOf, baseIn};
 use crate::form::copies_top;
 use crate::granule::in_bytes;
 use machine::Told;
 
 // The unit of a TLBI base, as the TG whose granule it is.
-fn unit_tg(unit64k: bool, tg: u64) -> u64
+pub fn unit_tg(unit64k: bool, tg: u64) -> u64
     requires { ⌜ (1 ≤ tg) × (tg < 4) ⌝ }
     ensures { λ r. ⌜ (granuleExponent r ≡ unitExponent unit64k tg) × (1 ≤ r) × (r < 4) ⌝ }
 {
@@ -21,14 +21,10 @@ fn copies_above(unit: u64) -> u64
     requires { ⌜ (1 ≤ unit) × (unit < 4) ⌝ }
     ensures { λ r. ⌜ r ≡ 2 ^ 64 - 2 ^ (37 + granuleExponent unit) ⌝ }
 {
-    match unit {
-        1 => 0xFFFE000000000000,
-        2 => 0xFFF8000000000000,
-        _ => 0xFFE0000000000000,
-    }
+    0xFFFFFFFFFFFFFFFF << (47 + 2 * unit)
 }
 
-fn tlbi_address(copied: bool, unit: u64, field: u64) -> u64
+pub fn tlbi_address(copied: bool, unit: u64, field: u64) -> u64
     requires { ⌜ (1 ≤ unit) × (unit < 4) × (field < 2 ^ 37) ⌝ }
     ensures { λ r. ⌜ r ≡ extend 37 (granuleExponent unit) copied field ⌝ }
 {
@@ -52,7 +48,7 @@ fn whole_granules(tg: u64, field: u64) -> u64
     }
 }
 
-fn tlbip_address(copied: bool, tg: u64, field: u64) -> u64
+pub fn tlbip_address(copied: bool, tg: u64, field: u64) -> u64
     requires { ⌜ (1 ≤ tg) × (tg < 4) × (field < 2 ^ 44) ⌝ }
     ensures { λ r. ⌜ r ≡ extend 44 12 copied (down (granuleExponent tg - 12) field) ⌝ }
 {
@@ -78,27 +74,17 @@ pub fn address_of(told: Told, tg: u64, field: u64) -> u64
     }
 }
 
-fn tlbi_field(unit: u64, address: u64) -> u64
+pub fn tlbi_field(unit: u64, address: u64) -> u64
     requires { ⌜ (1 ≤ unit) × (unit < 4) ⌝ }
-    ensures { λ r. ⌜ r ≡ address / 2 ^ granuleExponent unit % 2 ^ 37 ⌝ }
+    ensures { λ r. ⌜ (r ≡ address / 2 ^ granuleExponent unit % 2 ^ 37) × (r < 2 ^ 37) ⌝ }
 {
-    match unit {
-        1 => address / 0x1000 % 0x2000000000,
-        2 => address / 0x4000 % 0x2000000000,
-        _ => address / 0x10000 % 0x2000000000,
-    }
+    (address >> (10 + 2 * unit)) % 0x2000000000
 }
 
-pub fn field_of(told: Told, tg: u64, address: u64) -> u64
-    requires { ⌜ (1 ≤ tg) × (tg < 4) ⌝ }
-    ensures { λ r. ⌜ (r ≡ fieldOf told tg address) × (r < 2 ^ cond (told .tlbip) 44 37) ⌝ }
+pub fn tlbip_field(address: u64) -> u64
+    ensures { λ r. ⌜ (r ≡ address / 2 ^ 12 % 2 ^ 44) × (r < 2 ^ 44) ⌝ }
 {
-    if told.tlbip {
-        address / 0x1000 % 0x100000000000
-    } else {
-        let unit = unit_tg(told.unit64k, tg);
-        tlbi_field(unit, address)
-    }
+    address / 0x1000 % 0x100000000000
 }
 
 // The base field of two words.

@@ -8,9 +8,5 @@ pub fn in_bytes(tg: u64, granules: u64) -> u64
     requires { ⌜ (1 ≤ tg) × (tg < 4) × (granules < 2 ^ 37) ⌝ }
     ensures { λ r. ⌜ (r ≡ granules * 2 ^ granuleExponent tg) × (granules ≤ r) × (r < 2 ^ (37 + granuleExponent tg)) ⌝ }
 {
-    match tg {
-        1 => granules * 0x1000,
-        2 => granules * 0x4000,
-        _ => granules * 0x10000,
-    }
+    granules << (10 + 2 * tg)
 }

@@ -1,6 +1,8 @@
 -- `operands::granule::in_bytes` meets its contract.
-use mathlib.Core.Path.{_≡_}
+use Prim.Native.Nat.{ℕ, _+_, _*_, _%_, _^_, _≤_, _<_}
+use mathlib.Core.Path.{_≡_, subst, sym}
 use native.Mathlib.Omega.{arith}
+use lib.Pow.{shl-exact, shl-lt, shl-shr, shr-le}
 use borrow.Author.Needs.{needs}
 use Rattle.operands.proofs.granule.in_bytes.Statement.{statement}
 use Rattle.operands.proofs.granule.in_bytes.Tie as tie
@@ -8,21 +10,19 @@ use Rattle.operands.proofs.granule.in_bytes.Tie as tie
 mul-result : tie.Need-mul-result
 mul-result c = search needs
 
-mul-result-2 : tie.Need-mul-result-2
-mul-result-2 c = search needs
+add-result : tie.Need-add-result
+add-result c = search needs
 
-mul-result-3 : tie.Need-mul-result-3
-mul-result-3 c = search needs
+shl-result : tie.Need-shl-result
+shl-result c = search needs
 
 returns : tie.Need-returns
-returns c = rw (c .match .keys1) (omega arith, omega arith, omega arith)
-
-returns-2 : tie.Need-returns-2
-returns-2 c = rw (c .match .keys2) (omega arith, omega arith, omega arith)
-
-returns-3 : tie.Need-returns-3
-returns-3 c = let h : c .before .args .tg ≡ 3 = omega arith in rw h (omega arith, omega arith, omega arith)
+returns c =
+    let k : ℕ = 10 + 2 * c .args .tg in
+    let n = c .args .granules in
+    let e : n * 2 ^ k % 2 ^ 64 ≡ n * 2 ^ k = shl-exact 37 k 64 (c .pre .2) (omega (arith, c .pre .1)) in
+    let more : n ≤ n * 2 ^ k = subst (λ (m : ℕ). m ≤ n * 2 ^ k) (shl-shr n k) (shr-le (n * 2 ^ k) k) in
+    (e, subst (λ (m : ℕ). n ≤ m) (sym e) more, subst (λ (m : ℕ). m < 2 ^ (37 + k)) (sym e) (shl-lt 37 k (c .pre .2)))
 
 pub in-bytes-spec : {M : Type 1} → statement M
-in-bytes-spec =
-    tie.close (tie.spec mul-result mul-result-2 mul-result-3 returns returns-2 returns-3)
+in-bytes-spec = tie.close (tie.spec mul-result add-result shl-result returns)

@@ -1,12 +1,19 @@
 -- `operands::write::ns_fits` meets its contract.
+use Prim.Native.Nat.{ℕ}
+use mathlib.Core.Path.{ap, _∙_}
+use lib.Dec.{ltb}
+use borrow.Author.Needs.{needs}
+use Rattle.operands.proofs.Numbers.{in-room}
 use Rattle.operands.proofs.write.ns_fits.Statement.{statement}
 use Rattle.operands.proofs.write.ns_fits.Tie as tie
 
-returns : tie.Need-returns
-returns c = simp (c .if1 .taken)
+room-of-requires : tie.Need-room-of-requires
+room-of-requires c κs = search needs
 
-returns-2 : tie.Need-returns-2
-returns-2 c = simp (c .if1 .left)
+returns : tie.Need-returns
+returns c =
+    let a = c .before .args in
+    ap (λ (n : ℕ). ltb (a .ns) n) (c .room-of .ensures) ∙ in-room (a .has) 1 (a .ns)
 
 pub ns-fits-spec : {M : Type 1} → statement M
-ns-fits-spec = tie.close (tie.spec returns returns-2)
+ns-fits-spec = tie.close (tie.spec room-of-requires returns)

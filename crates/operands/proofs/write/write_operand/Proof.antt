@@ -1,8 +1,10 @@
 -- `operands::write::write_operand` meets its contract.
-use mathlib.Core.Path.{sym, _∙_}
+use mathlib.Core.Bool.{Bool, _&&_}
+use mathlib.Core.Path.{ap, _∙_}
+use native.Mathlib.Omega.{arith}
 use borrow.Author.Needs.{needs}
-use borrow.Author.Tests.{le-ltb}
-use Rattle.machine.specs.Operand.{isWritable, xt2Of, wordsOf}
+use borrow.Author.Tests.{le-ltb, not-true, not-false}
+use Rattle.machine.specs.Operand.{isShown, isWritable, wordsOf}
 use Rattle.operands.proofs.write.write_operand.Statement.{statement}
 use Rattle.operands.proofs.write.write_operand.Tie as tie
 
@@ -14,33 +16,30 @@ returns-2 : tie.Need-returns-2
 unfolding wordsOf isWritable
 returns-2 c = simp (c .if2 .taken)
 
-field-of-requires : tie.Need-field-of-requires
-field-of-requires c κs = search needs
-
-is-writable-requires : tie.Need-is-writable-requires
-is-writable-requires c κs = search needs
-
-xt-of-requires : tie.Need-xt-of-requires
-xt-of-requires c κs =
-    let field = c .before .before .field-of .ensures in
-    (sym (c .before .is-writable .ensures) ∙ c .if3 .taken, field .0, field .1)
-
-xt2-of-requires : tie.Need-xt2-of-requires
-xt2-of-requires c κs = search needs
+fields-fit-requires : tie.Need-fields-fit-requires
+fields-fit-requires c κs = search needs
 
 returns-3 : tie.Need-returns-3
-unfolding wordsOf xt2Of
-returns-3 c =
-    simp (
-      c .xt2-of .ensures,
-      c .before .xt-of .ensures,
-      sym (c .before .before .before .is-writable .ensures) ∙ c .before .before .if3 .taken,
-      sym (c .before .before .before .before .field-of .ensures .0),
-    )
+unfolding wordsOf
+returns-3 c = simp (c .before .fields-fit .ensures, not-true (c .before .fields-fit .result) (c .if3 .taken))
+
+write-tlbip-requires : tie.Need-write-tlbip-requires
+write-tlbip-requires c κs =
+    let b = c .before .before in
+    let a = b .before .before .before .args in
+    (c .if4 .taken, omega (arith, b .before .if2 .left), b .before .before .if1 .left, b .fields-fit .ensures ∙ ap (λ (r : Bool). r && isShown (a .told) (a .o .tg) (a .o .base)) (not-false (b .fields-fit .result) (c .before .if3 .left)))
+
+write-tlbi-requires : tie.Need-write-tlbi-requires
+write-tlbi-requires c κs =
+    let b = c .before .before in
+    let a = b .before .before .before .args in
+    (c .if4 .left, omega (arith, b .before .if2 .left), b .before .before .if1 .left, b .fields-fit .ensures ∙ ap (λ (r : Bool). r && isShown (a .told) (a .o .tg) (a .o .base)) (not-false (b .fields-fit .result) (c .before .if3 .left)))
 
 returns-4 : tie.Need-returns-4
-unfolding wordsOf
-returns-4 c = simp (sym (c .before .is-writable .ensures) ∙ c .if3 .left)
+returns-4 c = search needs
+
+returns-5 : tie.Need-returns-5
+returns-5 c = search needs
 
 pub write-operand-spec : {M : Type 1} → statement M
 write-operand-spec =
@@ -48,9 +47,9 @@ write-operand-spec =
     (tie.spec
     returns
     returns-2
-    field-of-requires
-    is-writable-requires
-    xt-of-requires
-    xt2-of-requires
+    fields-fit-requires
     returns-3
-    returns-4)
+    write-tlbip-requires
+    write-tlbi-requires
+    returns-4
+    returns-5)

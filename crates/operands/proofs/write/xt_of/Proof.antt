@@ -6,19 +6,16 @@ use Rattle.machine.specs.Operand.{xtOf}
 use Rattle.operands.proofs.write.xt_of.Statement.{statement}
 use Rattle.operands.proofs.write.xt_of.Tie as tie
 
-low-of-requires : tie.Need-low-of-requires
-low-of-requires c κs = search needs
-
 joined-requires : tie.Need-joined-requires
 joined-requires c κs =
-    let a = c .before .args in
-    let h = c .before .pre .0 in
+    let a = c .args in
+    let h = c .pre .0 in
     let w = writable-within (a .told) (a .o) h in
-    (writable-top (a .told) (a .o) h, w .1, w .2, w .3, w .4, c .low-of .ensures .1)
+    (writable-top (a .told) (a .o) h, w .1, w .2, w .3, w .4, c .pre .2)
 
 returns : tie.Need-returns
 unfolding xtOf
-returns c = simp (c .joined .ensures, c .before .low-of .ensures .0, sym (c .before .before .pre .1))
+returns c = simp (c .joined .ensures, sym (c .before .pre .1))
 
 pub xt-of-spec : {M : Type 1} → statement M
-xt-of-spec = tie.close (tie.spec low-of-requires joined-requires returns)
+xt-of-spec = tie.close (tie.spec joined-requires returns)
