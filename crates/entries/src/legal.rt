@@ -1,9 +1,9 @@
 // Which entries are legal.
 ghost use Prim.Native.Nat.{_%_, _^_};
-ghost use mathlib.Core.Bool.{_&&_};
+ghost use mathlib.Core.Bool.{not, _&&_, _||_};
 ghost use mathlib.Core.Path.{_≡_};
 ghost use lib.Dec.{eqb};
-ghost use Rattle.machine.specs.Entry.{isPlaced, inReach, isLegal};
+ghost use Rattle.machine.specs.Entry.{hasAsids, isPlaced, inReach, isLegal};
 ghost use Rattle.machine.specs.Span.{exponentOf, hasSpan};
 use crate::company::has_asids;
 use crate::company::is_company;
@@ -47,19 +47,35 @@ fn stands(wide: bool, granule: u64, level: i8, base: u64) -> bool
     }
 }
 
+// "ASID and global flag (both 0 in EL2, EL3 and stage 2)"
+fn is_asid_of(company: Company, asid: u16, global: bool) -> bool
+    ensures { λ r. ⌜ r ≡ (hasAsids company || (eqb asid 0 && not global)) ⌝ }
+{
+    if has_asids(company) {
+        return true;
+    }
+    (asid == 0) & !global
+}
+
+// One rule after the other: nearly every entry keeps all of them.
 pub fn is_legal(entry: Entry) -> bool
     ensures { λ r. ⌜ r ≡ isLegal entry ⌝ }
 {
+    if 7 < entry.processor {
+        return false;
+    }
     let company = entry.company;
-    let known = is_company(company);
-    let asids = has_asids(company);
-    let placed = is_placed(entry.leaf, entry.level, entry.global);
-    let stands = stands(entry.wide, entry.granule as u64, entry.level, entry.base);
-    let reached = in_reach(company, entry.base);
-    (entry.processor <= 7)
-        & known
-        & (asids | ((entry.asid == 0) & !entry.global))
-        & placed
-        & stands
-        & reached
+    if !is_company(company) {
+        return false;
+    }
+    if !is_asid_of(company, entry.asid, entry.global) {
+        return false;
+    }
+    if !is_placed(entry.leaf, entry.level, entry.global) {
+        return false;
+    }
+    if !stands(entry.wide, entry.granule as u64, entry.level, entry.base) {
+        return false;
+    }
+    in_reach(company, entry.base)
 }

@@ -1,5 +1,5 @@
 // Insert: the lowest slot that reads as empty is taken.
-ghost use Prim.Native.Nat.{_%_};
+ghost use Prim.Native.Nat.{_*_, _%_};
 ghost use mathlib.Core.Path.{_≡_};
 ghost use lib.ListN.{length};
 ghost use Rattle.laws.specs.Slots.{first};
@@ -21,27 +21,27 @@ pub fn insert_entry(table: &mut [u64], entry: Entry, out: u64) -> Inserted
     if !is_legal(entry) {
         return Inserted::Illegal;
     }
-    let k = first_empty(table);
-    if k < table.len() / 3 {
-        table[3 * k] = entry.base;
-        table[3 * k + 1] = tag_of(entry);
-        table[3 * k + 2] = out;
-        return Inserted::At(k);
+    let i = first_empty(table);
+    if i < table.len() {
+        table[i] = entry.base;
+        table[i + 1] = tag_of(entry);
+        table[i + 2] = out;
+        return Inserted::At(i / 3);
     }
     Inserted::Full
 }
 
-// The lowest slot that reads as empty, or the number of slots.
+// The first word of the lowest slot that reads as empty, or the number of words.
 fn first_empty(table: &[u64]) -> usize
     requires { ⌜ length (now table) % 3 ≡ 0 ⌝ }
-    ensures { λ r. ⌜ r ≡ first isEmpty (now (table .entry)) ⌝ }
+    ensures { λ r. ⌜ r ≡ 3 * first isEmpty (now (table .entry)) ⌝ }
 {
     let mut i = 0;
     while i < table.len() {
         if !is_entry(table[i], table[i + 1]) {
-            return i / 3;
+            return i;
         }
         i += 3;
     }
-    i / 3
+    i
 }

@@ -1,5 +1,5 @@
 -- `insertion::insert::first_empty` meets its contract.
-use Prim.Native.Nat.{_-_, _/_}
+use Prim.Native.Nat.{ℕ, _-_, _*_, _/_}
 use mathlib.Core.Bool.{not}
 use mathlib.Core.Path.{sym, ap, _∙_}
 use lib.ListN.{length}
@@ -39,7 +39,9 @@ is-entry-requires c κs = search needs
 returns : tie.Need-returns Inv-loop μ-loop
 returns c =
     let l = c .before .before .before .before .before .loop in
-    seek-here isEmpty (c .before .before .before .before .before .before .before .args .table .now) (l .i) (l .i / 3) (c .before .before .before .before .loop-test .taken) (l .inv) (ap not (sym (c .before .is-entry .ensures)) ∙ c .if1 .taken)
+    l .inv .2
+    ∙ ap (λ (k : ℕ). 3 * k)
+    (seek-here isEmpty (c .before .before .before .before .before .before .before .args .table .now) (l .i) (l .i / 3) (c .before .before .before .before .loop-test .taken) (l .inv) (ap not (sym (c .before .is-entry .ensures)) ∙ c .if1 .taken))
 
 add-i : tie.Need-add-i Inv-loop μ-loop
 add-i c = search needs
@@ -53,7 +55,9 @@ loop-again c =
     seek-next isEmpty (c .before .before .before .before .before .before .before .args .table .now) (l .i) (c .before .before .before .before .loop-test .taken) (l .inv) (ap not (sym (c .before .is-entry .ensures)) ∙ c .if1 .left)
 
 returns-2 : tie.Need-returns-2 Inv-loop μ-loop
-returns-2 c = let l = c .before .loop in seek-end isEmpty (c .before .before .before .args .table .now) (l .i) (l .i / 3) (c .loop-test .left) (l .inv)
+returns-2 c =
+    let l = c .before .loop in
+    l .inv .2 ∙ ap (λ (k : ℕ). 3 * k) (seek-end isEmpty (c .before .before .before .args .table .now) (l .i) (l .i / 3) (c .loop-test .left) (l .inv))
 
 pub first-empty-spec : {M : Type 1} → statement M
 first-empty-spec =

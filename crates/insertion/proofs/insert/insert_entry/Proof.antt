@@ -1,14 +1,21 @@
 -- `insertion::insert::insert_entry` meets its contract.
-use Prim.Native.Nat.{ℕ}
-use mathlib.Core.Path.{sym, ap, _∙_}
+use Prim.Native.Nat.{ℕ, _+_, _*_, _/_, _%_, _<_}
+use mathlib.Core.List.{List}
+use mathlib.Core.Path.{_≡_, refl, sym, ap, ap₂, _∙_}
 use native.Mathlib.Omega.{arith}
-use lib.ListN.{length-set}
+use lib.ListN.{length, set, length-set}
 use borrow.Author.Needs.{needs}
 use borrow.Author.Tests.{not-true, not-false}
-use Rattle.laws.specs.Slots.{put}
+use Rattle.laws.specs.Slots.{first, slots}
 use Rattle.machine.proofs.Inserting.{table-shape, insert-13, insert-8, insert-9, insert-0}
+use Rattle.machine.specs.Table.{isEmpty}
+use Rattle.machine.specs.declared.table.Inserted.the-variants.{At}
 use Rattle.insertion.proofs.insert.insert_entry.Statement.{statement}
 use Rattle.insertion.proofs.insert.insert_entry.Tie as tie
+
+-- a slot that starts in a table of whole slots ends in it
+whole : (l : List ℕ) (i k : ℕ) → length l % 3 ≡ 0 → i ≡ 3 * k → i < length l → i + 2 < length l
+whole l i k s e h = omega (arith, s, e, h)
 
 is-table-requires : tie.Need-is-table-requires
 is-table-requires c κs = search needs
@@ -35,50 +42,62 @@ first-empty-requires c κs = table-shape (c .before .before .before .before .bef
 mul-table : tie.Need-mul-table
 mul-table c = search needs
 
-mul-table-2 : tie.Need-mul-table-2
-mul-table-2 c = search needs
-
 slice-write-table : tie.Need-slice-write-table
 slice-write-table c = search needs
 
 tag-of-requires : tie.Need-tag-of-requires
 tag-of-requires c κs = sym (c .before .before .before .before .is-legal .ensures) ∙ not-false _ (c .before .before .before .if2 .left)
 
-mul-table-3 : tie.Need-mul-table-3
-mul-table-3 c = search needs
-
 add-table : tie.Need-add-table
 add-table c = search needs
 
-mul-table-4 : tie.Need-mul-table-4
-mul-table-4 c = search needs
+mul-table-2 : tie.Need-mul-table-2
+mul-table-2 c = search needs
 
 slice-write-table-2 : tie.Need-slice-write-table-2
-slice-write-table-2 c = simp length-set (omega arith)
-
-mul-table-5 : tie.Need-mul-table-5
-mul-table-5 c = search needs
+slice-write-table-2 c =
+    let f = c .before .before in
+    let t = f .before .before .before .before .before in
+    let l = t .before .before .args .table .now in
+    let s = table-shape l (sym (t .is-table .ensures) ∙ not-false _ (f .before .before .before .before .if1 .left)) .0 in
+    let room = whole l (f .first-empty .result) (first isEmpty l) s (f .first-empty .ensures) (c .before .if3 .taken) in
+    simp length-set (omega (arith, room))
 
 add-table-2 : tie.Need-add-table-2
 add-table-2 c = search needs
 
-mul-table-6 : tie.Need-mul-table-6
-mul-table-6 c = search needs
+mul-table-3 : tie.Need-mul-table-3
+mul-table-3 c = search needs
 
 slice-write-table-3 : tie.Need-slice-write-table-3
-slice-write-table-3 c = simp length-set (omega arith)
+slice-write-table-3 c =
+    let f = c .before .before in
+    let t = f .before .before .before .before .before in
+    let l = t .before .before .args .table .now in
+    let s = table-shape l (sym (t .is-table .ensures) ∙ not-false _ (f .before .before .before .before .if1 .left)) .0 in
+    let room = whole l (f .first-empty .result) (first isEmpty l) s (f .first-empty .ensures) (c .before .if3 .taken) in
+    simp length-set (omega (arith, room))
 
 same-length : tie.Need-same-length
 same-length c = search needs
 
 returns-3 : tie.Need-returns-3
 returns-3 c =
-    let a = c .before .before .before .before .before .before .before .before .before .args in
-    let t = sym (c .before .before .before .before .before .before .before .is-table .ensures) ∙ not-false _ (c .before .before .before .before .before .before .if1 .left) in
-    let v = sym (c .before .before .before .before .before .is-legal .ensures) ∙ not-false _ (c .before .before .before .before .if2 .left) in
-    let k = c .before .before .first-empty .result in
-    let w = insert-0 (a .entry) (a .out) (a .table .now) k t v (c .before .before .first-empty .ensures) (c .before .if3 .taken) in
-    (sym (w .0), ap (λ (n : ℕ). put k (a .entry .base) n (a .out) (a .table .now)) (c .tag-of .ensures) ∙ sym (w .1))
+    let f = c .before .before in
+    let t = f .before .before .before .before .before in
+    let a = t .before .before .args in
+    let l = a .table .now in
+    let shape = sym (t .is-table .ensures) ∙ not-false _ (f .before .before .before .before .if1 .left) in
+    let legal = sym (f .before .before .before .is-legal .ensures) ∙ not-false _ (f .before .before .if2 .left) in
+    let i = f .first-empty .result in
+    let k = first isEmpty l in
+    let e : i ≡ 3 * k = f .first-empty .ensures in
+    let s = table-shape l shape .0 in
+    let room : k < slots l = omega (arith, e, s, c .before .if3 .taken) in
+    let w = insert-0 (a .entry) (a .out) l k shape legal refl room in
+    let at : i / 3 ≡ k = omega (arith, e) in
+    let words = ap₂ (λ (j n : ℕ). set (set (set l j (a .entry .base)) (j + 1) n) (j + 2) (a .out)) e (c .tag-of .ensures) in
+    (ap At at ∙ sym (w .0), words ∙ sym (w .1))
 
 same-length-2 : tie.Need-same-length-2
 same-length-2 c = search needs
@@ -102,16 +121,13 @@ insert-entry-spec =
     returns-2
     first-empty-requires
     mul-table
-    mul-table-2
     slice-write-table
     tag-of-requires
-    mul-table-3
     add-table
-    mul-table-4
+    mul-table-2
     slice-write-table-2
-    mul-table-5
     add-table-2
-    mul-table-6
+    mul-table-3
     slice-write-table-3
     same-length
     returns-3
