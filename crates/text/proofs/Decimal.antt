@@ -1,4 +1,4 @@
--- A number in decimal: its last digit or two, the digits before them, and how many there are at most.
+-- A number in decimal: its last digit, two or four, the digits before them, and how many there are at most.
 use Prim.Native.Nat.{ℕ, zero, suc, _+_, _/_, _%_, _^_, _≤_, _<_}
 use mathlib.Core.Path.{_≡_, refl, sym, ap}
 use mathlib.Core.Bool.{Bool, true, false, cond}
@@ -57,6 +57,22 @@ decimal-hundreds x h l =
     rw (decimal-more x m l, decimal-more (x / 10) t f, hundredth, tens, ones)
     (append-assoc (decimalOf (x / 100)) ((48 + x % 100 / 10) ∷ []) ((48 + x % 100 % 10) ∷ []))
 
+-- and so by four digits
+pub decimal-myriads : (x : ℕ) → 10000 ≤ x → x < 2 ^ 64 → decimalOf x ≡
+    decimalOf (x / 10000) ++ ((48 + x % 10000 / 100 / 10) ∷ (48 + x % 10000 / 100 % 10) ∷ (48 + x % 10000 % 100 / 10) ∷ (48 + x % 10000 % 100 % 10) ∷ [])
+decimal-myriads x h l =
+    let m : 100 ≤ x = omega arith in
+    let t : 100 ≤ x / 100 = omega arith in
+    let f : x / 100 < 2 ^ 64 = omega arith in
+    let part : x / 100 / 100 ≡ x / 10000 = omega arith in
+    let high : x / 100 % 100 ≡ x % 10000 / 100 = omega arith in
+    let low : x % 100 ≡ x % 10000 % 100 = omega arith in
+    rw (decimal-hundreds x m l, decimal-hundreds (x / 100) t f, part, high, low)
+    (append-assoc
+    (decimalOf (x / 10000))
+    ((48 + x % 10000 / 100 / 10) ∷ (48 + x % 10000 / 100 % 10) ∷ [])
+    ((48 + x % 10000 % 100 / 10) ∷ (48 + x % 10000 % 100 % 10) ∷ []))
+
 few : (k x : ℕ) → length (digits k x) ≤ k
 unfolding digits
 few zero x = omega arith
@@ -91,3 +107,8 @@ put-pair x h l p = putAs p (lit≤ tt) (sym (decimal-pair x h l))
 pub put-hundreds : {b m a : List ℕ} {n r q : ℕ} (x : ℕ) → 100 ≤ x → x < 2 ^ 64 →
     Put b n m r (decimalOf (x / 100)) 20 → Put m r a q ((48 + x % 100 / 10) ∷ (48 + x % 100 % 10) ∷ []) 2 → Put b n a q (decimalOf x) 20
 put-hundreds x h l p d = putMost 20 (putAs (andThen 20 2 p d) (le-refl 22) (sym (decimal-hundreds x h l))) (decimal-few x)
+
+pub put-myriads : {b m a : List ℕ} {n r q : ℕ} (x : ℕ) → 10000 ≤ x → x < 2 ^ 64 → Put b n m r (decimalOf (x / 10000)) 20 →
+    Put m r a q ((48 + x % 10000 / 100 / 10) ∷ (48 + x % 10000 / 100 % 10) ∷ (48 + x % 10000 % 100 / 10) ∷ (48 + x % 10000 % 100 % 10) ∷ []) 4 →
+    Put b n a q (decimalOf x) 20
+put-myriads x h l p d = putMost 20 (putAs (andThen 20 4 p d) (le-refl 24) (sym (decimal-myriads x h l))) (decimal-few x)
