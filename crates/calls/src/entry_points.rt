@@ -21,11 +21,14 @@ use machine::Target;
 use machine::Told;
 use words::OperationWord;
 
+// Most words are told by their fixed bits, before anything else is read.
 pub fn decode(word: u64) -> Decoded
     ensures { λ r. ⌜ Decodes word r ⌝ }
 {
-    let word = OperationWord { bits: word };
-    word.read()
+    if OperationWord::is_fixed(word) {
+        return OperationWord { bits: word }.read();
+    }
+    Decoded::Unknown
 }
 
 pub fn build(op: Operation) -> Built
