@@ -24,11 +24,14 @@ pub extern "C" fn chickadoor_read_operand(
 ) -> u32
     ensures { λ r. ⌜ Answers (readNumberIf (toldFits told)) (readWordsIf (toldFits told)) (λ (a : OperandRead). Reads (toldIn told) xt xt2 a) r (now (out .exit)) ⌝ }
 {
-    let known = told_fits(told);
+    if !told_fits(told) {
+        *out = [0; 7];
+        return 8;
+    }
     let told = told_in(told);
     let read = calls::read_operand(told, xt, xt2);
-    *out = read_words(known, read);
-    read_number(known, read)
+    *out = read_words(read);
+    read_number(read)
 }
 
 #[no_mangle]
@@ -39,10 +42,13 @@ pub extern "C" fn chickadoor_write_operand(
 ) -> u32
     ensures { λ r. ⌜ Answers (writtenNumberIf (toldFits told)) (writtenWordsIf (toldFits told)) (λ (a : OperandWritten). Writes (toldIn told) (fieldsIn fields) a) r (now (out .exit)) ⌝ }
 {
-    let known = told_fits(told);
+    if !told_fits(told) {
+        *out = [0, 0];
+        return 8;
+    }
     let told = told_in(told);
     let fields = fields_in(fields);
     let written = calls::write_operand(told, fields);
-    *out = written_words(known, written);
-    written_number(known, written)
+    *out = written_words(written);
+    written_number(written)
 }

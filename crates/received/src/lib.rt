@@ -16,6 +16,7 @@ pub use operand::fields_in;
 pub use operand::told_fits;
 pub use operand::told_in;
 pub use operation::OperationRecord;
+pub use operation::operation_fits;
 pub use operation::operation_in;
 pub use state::StateRecord;
 pub use state::state_in;

@@ -41,7 +41,8 @@ fn share_at(number: u64) -> Share
     }
 }
 
-fn operation_fits(op: OperationRecord) -> bool
+// Whether each field has a value that it can have.
+pub fn operation_fits(op: OperationRecord) -> bool
     ensures { λ r. ⌜ r ≡ operationFits op ⌝ }
 {
     (op.name < 10) & (op.share < 3) & (op.nxs < 2) & (op.tlbip < 2) & (op.rt < 256)

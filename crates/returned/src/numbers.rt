@@ -1,7 +1,7 @@
-// The number of each answer. `known` says that what C gave besides the state has values that its fields can have.
+// The number of each answer. `known` says that the regime that C gave is one.
 ghost use mathlib.Core.Path.{_≡_};
 ghost use Rattle.machine.specs.Answer.{decodedNumber, builtNumber, readNumber, writtenNumber, insertedNumber, lookedUpNumber, executedNumber, ranNumber, judgedNumber, slotNumber};
-ghost use Rattle.returned.specs.Known.{foundNumber, readNumberIf, writtenNumberIf};
+ghost use Rattle.returned.specs.Known.{foundNumber};
 use machine::Built;
 use machine::Decoded;
 use machine::Executed;
@@ -31,7 +31,7 @@ pub fn built_number(built: Built) -> u32
     }
 }
 
-fn operand_number(read: OperandRead) -> u32
+pub fn read_number(read: OperandRead) -> u32
     ensures { λ r. ⌜ r ≡ readNumber read ⌝ }
 {
     match read {
@@ -40,31 +40,13 @@ fn operand_number(read: OperandRead) -> u32
     }
 }
 
-pub fn read_number(known: bool, read: OperandRead) -> u32
-    ensures { λ r. ⌜ r ≡ readNumberIf known read ⌝ }
-{
-    if known {
-        return operand_number(read);
-    }
-    8
-}
-
-fn operand_words_number(written: OperandWritten) -> u32
+pub fn written_number(written: OperandWritten) -> u32
     ensures { λ r. ⌜ r ≡ writtenNumber written ⌝ }
 {
     match written {
         OperandWritten::Words(xt, xt2) => 0,
         OperandWritten::Refused => 8,
     }
-}
-
-pub fn written_number(known: bool, written: OperandWritten) -> u32
-    ensures { λ r. ⌜ r ≡ writtenNumberIf known written ⌝ }
-{
-    if known {
-        return operand_words_number(written);
-    }
-    8
 }
 
 pub fn inserted_number(inserted: Inserted) -> u32

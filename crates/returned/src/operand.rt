@@ -1,6 +1,5 @@
 // The answers of an operand's reader and writer, as words.
 ghost use mathlib.Core.Path.{_≡_};
-ghost use Rattle.returned.specs.Known.{readWordsIf, writtenWordsIf};
 ghost use Rattle.returned.specs.Words.{fieldsWords, readWords, writtenWords};
 use machine::Operand;
 use machine::OperandRead;
@@ -20,7 +19,7 @@ fn fields_words(fields: Operand) -> [u64; 7]
     ]
 }
 
-fn operand_words(read: OperandRead) -> [u64; 7]
+pub fn read_words(read: OperandRead) -> [u64; 7]
     ensures { λ r. ⌜ r ≡ readWords read ⌝ }
 {
     match read {
@@ -29,29 +28,11 @@ fn operand_words(read: OperandRead) -> [u64; 7]
     }
 }
 
-pub fn read_words(known: bool, read: OperandRead) -> [u64; 7]
-    ensures { λ r. ⌜ r ≡ readWordsIf known read ⌝ }
-{
-    if known {
-        return operand_words(read);
-    }
-    [0; 7]
-}
-
-fn both_words(written: OperandWritten) -> [u64; 2]
+pub fn written_words(written: OperandWritten) -> [u64; 2]
     ensures { λ r. ⌜ r ≡ writtenWords written ⌝ }
 {
     match written {
         OperandWritten::Words(xt, xt2) => [xt, xt2],
         OperandWritten::Refused => [0, 0],
     }
-}
-
-pub fn written_words(known: bool, written: OperandWritten) -> [u64; 2]
-    ensures { λ r. ⌜ r ≡ writtenWordsIf known written ⌝ }
-{
-    if known {
-        return both_words(written);
-    }
-    [0, 0]
 }

@@ -1,7 +1,20 @@
 -- `board::words::chickadoor_build` meets its contract.
+use mathlib.Core.Path.{refl, sym, _∙_}
 use borrow.Author.Needs.{needs}
+use borrow.Author.Tests.{not-true}
+use Rattle.machine.specs.declared.operation.Built.the-variants.{Unfit}
+use Rattle.received.proofs.Unfit.{operation-unfit}
 use Rattle.board.proofs.words.chickadoor_build.Statement.{statement}
 use Rattle.board.proofs.words.chickadoor_build.Tie as tie
+
+operation-fits-requires : tie.Need-operation-fits-requires
+operation-fits-requires c κs = search needs
+
+returns : tie.Need-returns
+returns c =
+    let fits = c .before .before .operation-fits in
+    let unfit = operation-unfit (c .before .before .before .args .operation) (sym (fits .ensures) ∙ not-true (fits .result) (c .before .if1 .taken)) in
+    record { answer = Unfit; kept = sym unfit; numbered = refl; told = refl }
 
 operation-in-requires : tie.Need-operation-in-requires
 operation-in-requires c κs = search needs
@@ -15,8 +28,8 @@ built-words-requires c κs = search needs
 built-number-requires : tie.Need-built-number-requires
 built-number-requires c κs = search needs
 
-returns : tie.Need-returns
-returns c =
+returns-2 : tie.Need-returns-2
+returns-2 c =
     let operation = c .before .before .before .operation-in .ensures in
     let call = c .before .before .build in
     record { answer = call .result; kept = rw (← operation) (call .ensures); numbered = c .built-number .ensures; told = c .before .built-words .ensures }
@@ -25,8 +38,10 @@ pub chickadoor-build-spec : {M : Type 1} → statement M
 chickadoor-build-spec =
     tie.close
     (tie.spec
+    operation-fits-requires
+    returns
     operation-in-requires
     build-requires
     built-words-requires
     built-number-requires
-    returns)
+    returns-2)
