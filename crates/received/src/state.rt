@@ -1,6 +1,6 @@
 // The processor state as C gives it: flags are bytes, and one that is neither 0 nor 1 makes the state bad.
 ghost use mathlib.Core.Path.{_≡_};
-ghost use Rattle.received.specs.States.{presentIn, featuresIn, scrIn, hcrIn, hcrxIn, flagsIn, trapsIn, dsIn, boardIn, stateIn, presentFit, featuresFit, scrFit, hcrFit, hcrxFit, flagsFit, trapsFit, dsFit, stateFits, elIn};
+ghost use Rattle.received.specs.States.{featuresIn, scrIn, hcrIn, flagsIn, trapsIn, boardIn, stateIn, presentFit, featuresFit, scrFit, hcrFit, hcrxFit, flagsFit, trapsFit, dsFit, stateFits, elIn};
 use machine::Board;
 use machine::Ds;
 use machine::Features;
@@ -108,15 +108,6 @@ pub struct StateRecord {
     pub vmid: u16,
 }
 
-fn present_in(present: PresentRecord) -> Present
-    ensures { λ r. ⌜ r ≡ presentIn present ⌝ }
-{
-    Present {
-        el2: present.el2 == 1,
-        el3: present.el3 == 1,
-    }
-}
-
 fn present_fit(present: PresentRecord) -> bool
     ensures { λ r. ⌜ r ≡ presentFit present ⌝ }
 {
@@ -195,15 +186,6 @@ fn hcr_fit(hcr: HcrRecord) -> bool
         & (hcr.nv < 2)
 }
 
-fn hcrx_in(hcrx: HcrxRecord) -> Hcrx
-    ensures { λ r. ⌜ r ≡ hcrxIn hcrx ⌝ }
-{
-    Hcrx {
-        fnxs: hcrx.fnxs == 1,
-        fgtnxs: hcrx.fgtnxs == 1,
-    }
-}
-
 fn hcrx_fit(hcrx: HcrxRecord) -> bool
     ensures { λ r. ⌜ r ≡ hcrxFit hcrx ⌝ }
 {
@@ -250,17 +232,6 @@ fn traps_fit(traps: TrapsRecord) -> bool
         & flags_fit(traps.rvaale1)
 }
 
-fn ds_in(ds: DsRecord) -> Ds
-    ensures { λ r. ⌜ r ≡ dsIn ds ⌝ }
-{
-    Ds {
-        el1: ds.el1 == 1,
-        el2: ds.el2 == 1,
-        el3: ds.el3 == 1,
-        stage2: ds.stage2 == 1,
-    }
-}
-
 fn ds_fit(ds: DsRecord) -> bool
     ensures { λ r. ⌜ r ≡ dsFit ds ⌝ }
 {
@@ -299,27 +270,37 @@ fn el_in(state: StateRecord) -> u8
     if state_fits(state) { state.el } else { 4 }
 }
 
+// Registers of two or four flags are made in their place: of a function's result the compiler would make one number, flag by flag, where it
+// compares sixteen flags at once.
 pub fn state_in(state: StateRecord) -> State
     ensures { λ r. ⌜ r ≡ stateIn state ⌝ }
 {
     let el = el_in(state);
-    let present = present_in(state.present);
     let features = features_in(state.features);
     let scr = scr_in(state.scr);
     let hcr = hcr_in(state.hcr);
-    let hcrx = hcrx_in(state.hcrx);
     let traps = traps_in(state.traps);
-    let ds = ds_in(state.ds);
     let board = board_in(state.board);
     State {
         el,
-        present,
+        present: Present {
+            el2: state.present.el2 == 1,
+            el3: state.present.el3 == 1,
+        },
         features,
         scr,
         hcr,
-        hcrx,
+        hcrx: Hcrx {
+            fnxs: state.hcrx.fnxs == 1,
+            fgtnxs: state.hcrx.fgtnxs == 1,
+        },
         traps,
-        ds,
+        ds: Ds {
+            el1: state.ds.el1 == 1,
+            el2: state.ds.el2 == 1,
+            el3: state.ds.el3 == 1,
+            stage2: state.ds.stage2 == 1,
+        },
         vmid: state.vmid,
         board,
     }

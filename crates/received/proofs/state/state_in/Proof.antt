@@ -7,9 +7,6 @@ use Rattle.received.proofs.state.state_in.Tie as tie
 el-in-requires : tie.Need-el-in-requires
 el-in-requires c κs = search needs
 
-present-in-requires : tie.Need-present-in-requires
-present-in-requires c κs = search needs
-
 features-in-requires : tie.Need-features-in-requires
 features-in-requires c κs = search needs
 
@@ -19,33 +16,33 @@ scr-in-requires c κs = search needs
 hcr-in-requires : tie.Need-hcr-in-requires
 hcr-in-requires c κs = search needs
 
-hcrx-in-requires : tie.Need-hcrx-in-requires
-hcrx-in-requires c κs = search needs
-
 traps-in-requires : tie.Need-traps-in-requires
 traps-in-requires c κs = search needs
-
-ds-in-requires : tie.Need-ds-in-requires
-ds-in-requires c κs = search needs
 
 board-in-requires : tie.Need-board-in-requires
 board-in-requires c κs = search needs
 
 returns : tie.Need-returns
 unfolding stateIn
-returns c = simp (c .board-in .ensures, c .before .ds-in .ensures, c .before .before .traps-in .ensures, c .before .before .before .hcrx-in .ensures, c .before .before .before .before .hcr-in .ensures, c .before .before .before .before .before .scr-in .ensures, c .before .before .before .before .before .before .features-in .ensures, c .before .before .before .before .before .before .before .present-in .ensures, c .before .before .before .before .before .before .before .before .el-in .ensures)
+returns c =
+    let b = c .before .before .before .before .before .before .before .before in
+    simp (
+      b .board-in .ensures,
+      b .before .traps-in .ensures,
+      b .before .before .hcr-in .ensures,
+      b .before .before .before .scr-in .ensures,
+      b .before .before .before .before .features-in .ensures,
+      b .before .before .before .before .before .el-in .ensures,
+    )
 
 pub state-in-spec : {M : Type 1} → statement M
 state-in-spec =
     tie.close
     (tie.spec
     el-in-requires
-    present-in-requires
     features-in-requires
     scr-in-requires
     hcr-in-requires
-    hcrx-in-requires
     traps-in-requires
-    ds-in-requires
     board-in-requires
     returns)
