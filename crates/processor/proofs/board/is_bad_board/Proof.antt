@@ -28,7 +28,7 @@ returns-4 : tie.Need-returns-4
 unfolding badBoard domainsAgree
 returns-4 c =
     let b = c .before .before .before .before .before .before .before .before .before .before .before .args .board in
-    let one = one-agrees (b .inner) (b .outer) (b .count) (sym (c .before .is-one-domain .ensures) ∙ c .if4 .taken) in
+    let one = one-agrees (b .inner) (b .outer) (b .count) (c .before .before .before .before .before .before .before .if2 .left) (sym (c .before .is-one-domain .ensures) ∙ c .if4 .taken) in
     simp (one, lt-leb _ _ (c .before .before .before .before .before .if3 .left), le-ltb _ _ (c .before .before .before .before .before .before .before .if2 .left), le-ltb _ _ (c .before .before .before .before .before .before .before .before .before .if1 .left))
 
 domains-clash-requires : tie.Need-domains-clash-requires

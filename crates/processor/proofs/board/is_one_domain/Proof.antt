@@ -12,16 +12,13 @@ use Rattle.processor.proofs.board.is_one_domain.Statement.{statement}
 use Rattle.processor.proofs.board.is_one_domain.Tie as tie
 
 abbrev Inv-loop : tie.InvT-loop
-Inv-loop domains count p₀ p = (p ≤ count) × (true ≡ every (isFirst domains) p)
+Inv-loop domains p₀ p = (p ≤ 8) × (true ≡ every (isFirst domains) p)
 
 abbrev μ-loop : tie.MeasureT-loop
-μ-loop domains count p₀ p = count - p
+μ-loop domains p₀ p = 8 - p
 
 loop-holds : tie.Need-loop-holds Inv-loop μ-loop
 loop-holds c = (search needs, every-none _)
-
-cast-if1 : tie.Need-cast-if1 Inv-loop μ-loop
-cast-if1 c = search needs
 
 element-copy-out-if1 : tie.Need-element-copy-out-if1 Inv-loop μ-loop
 element-copy-out-if1 c = search needs
@@ -33,7 +30,7 @@ returns : tie.Need-returns Inv-loop μ-loop
 returns c =
     let a = c .before .before .before .before .before .args in
     let l = c .before .before .before .before .loop in
-    sym (one-not (a .domains .now) (a .count) (l .p) (c .before .before .before .loop-test .taken) (ne-eqb _ _ (c .if1 .taken)))
+    sym (one-not (a .domains .now) 8 (l .p) (c .before .before .before .loop-test .taken) (ne-eqb _ _ (c .if1 .taken)))
 
 add-p : tie.Need-add-p Inv-loop μ-loop
 add-p c = search needs
@@ -57,7 +54,6 @@ is-one-domain-spec =
     Inv-loop
     μ-loop
     loop-holds
-    cast-if1
     element-copy-out-if1
     element-copy-out-if1-2
     returns
