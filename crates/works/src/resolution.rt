@@ -4,7 +4,7 @@ ghost use mathlib.Core.Path.{_≡_};
 ghost use Rattle.machine.specs.Access.{accessOf};
 ghost use Rattle.machine.specs.Asked.{askedOf};
 ghost use Rattle.machine.specs.Execute.{resolvedRange, resolvedAccess, resolvedWord};
-ghost use Rattle.machine.specs.Goes.{companyOf, workOf};
+ghost use Rattle.machine.specs.Goes.{workOf};
 use access::decide;
 use machine::Access;
 use machine::Company;
@@ -53,27 +53,20 @@ fn by_range(state: State, op: Operation, scope: Scope, xt: u64, xt2: u64) -> Res
     }
 }
 
-fn company_of(scope: Scope, operand: Operand) -> Company
-    ensures { λ r. ⌜ r ≡ companyOf scope operand ⌝ }
-{
-    let regime = scope.regime;
-    let security = scope.security;
-    Company {
-        regime,
-        security,
-        vmid: scope.vmid,
-        stage2: scope.stage2,
-        ns: operand.ns == 1,
-    }
-}
-
 fn work_of(state: State, op: Operation, scope: Scope, operand: Operand, range: Range) -> Work
     requires { ⌜ operand .ttl < 4 ⌝ }
     ensures { λ r. ⌜ r ≡ workOf state op scope operand range ⌝ }
 {
-    let company = company_of(scope, operand);
+    let regime = scope.regime;
+    let security = scope.security;
     Work {
-        company,
+        company: Company {
+            regime,
+            security,
+            vmid: scope.vmid,
+            stage2: scope.stage2,
+            ns: operand.ns == 1,
+        },
         reached: scope.reached,
         granule: operand.tg,
         first: range.first,

@@ -6,15 +6,12 @@ use Rattle.machine.specs.Goes.{workOf}
 use Rattle.works.proofs.resolution.work_of.Statement.{statement}
 use Rattle.works.proofs.resolution.work_of.Tie as tie
 
-company-of-requires : tie.Need-company-of-requires
-company-of-requires c κs = search needs
-
-cast-t8 : tie.Need-cast-t8
-cast-t8 c = search needs
+cast-t11 : tie.Need-cast-t11
+cast-t11 c = search needs
 
 returns : tie.Need-returns
 unfolding workOf
-returns c = rw (c .before .before .company-of .ensures, ttl-level (c .before .before .before .args .operand .ttl) (c .before .before .before .pre)) refl
+returns c = rw (ttl-level (c .before .before .before .args .operand .ttl) (c .before .before .before .pre)) refl
 
 pub work-of-spec : {M : Type 1} → statement M
-work-of-spec = tie.close (tie.spec company-of-requires cast-t8 returns)
+work-of-spec = tie.close (tie.spec cast-t11 returns)
