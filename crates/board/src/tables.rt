@@ -66,8 +66,13 @@ pub extern "C" fn chickadoor_read_slot(table: &[u64], slot: usize, out: &mut [u6
     ensures { λ r. ⌜ Answers slotNumber slotWords (λ (a : SlotRead). ReadsSlot slot (now (table .entry)) a (now (table .exit))) r (now (out .exit)) ⌝ }
 {
     let read = calls::read_slot(table, slot);
+    let number = slot_number(read);
+    if number != 0 {
+        *out = [0; 15];
+        return number;
+    }
     *out = slot_words(read);
-    slot_number(read)
+    number
 }
 
 #[no_mangle]
