@@ -12,7 +12,7 @@ use Rattle.laws.proofs.Slots.{Seeking, seek-next}
 use Rattle.laws.specs.Passed.{Passed}
 
 module _ (mask key : ℕ) (l : List ℕ) (i : ℕ) where
-  -- at the start, one more, and two more
+  -- at the start, and one to four more
   pub pass-start : i % 3 ≡ 0 → i < length l → Passed mask key l i i
   pass-start w h = record {
     from = omega arith;
@@ -43,6 +43,28 @@ module _ (mask key : ℕ) (l : List ℕ) (i : ℕ) where
       let two : Passed mask key l i (r + 3 + 3) =
       pass-more (r + 3) one low (λ (e : bitAnd (getD l (r + 3 + 4) 0) mask ≡ key). m (ap (λ (x : ℕ). bitAnd (getD l x 0) mask) seven ∙ e)) in
       subst (λ (x : ℕ). Passed mask key l i x) six two
+
+  -- what is not at one word is not at another that is the same
+  moved : (x y : ℕ) → x ≡ y → (bitAnd (getD l x 0) mask ≡ key → ⊥) → bitAnd (getD l y 0) mask ≡ key → ⊥
+  moved x y e n h = n (ap (λ (z : ℕ). bitAnd (getD l z 0) mask) e ∙ h)
+
+  pub pass-three : (r : ℕ) → Passed mask key l i r → r + 9 < length l → (bitAnd (getD l (r + 4) 0) mask ≡ key → ⊥) →
+      (bitAnd (getD l (r + 7) 0) mask ≡ key → ⊥) → (bitAnd (getD l (r + 10) 0) mask ≡ key → ⊥) → Passed mask key l i (r + 9)
+  pass-three r s h n m o =
+      let nine : r + 6 + 3 ≡ r + 9 = omega arith in
+      let low : r + 6 + 3 < length l = omega arith in
+      let two : Passed mask key l i (r + 6) = pass-two r s (omega arith) n m in
+      subst (λ (x : ℕ). Passed mask key l i x) nine (pass-more (r + 6) two low (moved (r + 10) (r + 6 + 4) (omega arith) o))
+
+  pub pass-four : (r : ℕ) → Passed mask key l i r → r + 12 < length l → (bitAnd (getD l (r + 4) 0) mask ≡ key → ⊥) →
+      (bitAnd (getD l (r + 7) 0) mask ≡ key → ⊥) → (bitAnd (getD l (r + 10) 0) mask ≡ key → ⊥) → (bitAnd (getD l (r + 13) 0) mask ≡ key → ⊥) →
+      Passed mask key l i (r + 12)
+  pass-four r s h n m o q =
+      let twelve : r + 6 + 6 ≡ r + 12 = omega arith in
+      let low : r + 6 + 6 < length l = omega arith in
+      let two : Passed mask key l i (r + 6) = pass-two r s (omega arith) n m in
+      subst (λ (x : ℕ). Passed mask key l i x) twelve
+      (pass-two (r + 6) two low (moved (r + 10) (r + 6 + 4) (omega arith) o) (moved (r + 13) (r + 6 + 7) (omega arith) q))
 
   -- none of them, the first included, is what is looked for
   none : (r : ℕ) → Passed mask key l i r → i % 3 ≡ 0 → (bitAnd (getD l (i + 1) 0) mask ≡ key → ⊥) → (k : ℕ) → k < (r - i) / 3 + 1 →

@@ -4,21 +4,27 @@ ghost use mathlib.Core.Path.{_≡_};
 ghost use lib.ListN.{length};
 ghost use Rattle.laws.specs.Passed.{Passed};
 
-// The last of the slots behind one slot that are passed, none of which has the key under the mask. Two of them are looked at in a turn: a turn
-// for each takes up to twice as long where its code lies across two lines of the cache, which is chance.
+// The last of the slots behind one slot that are passed, none of which has the key under the mask. Four of them are looked at in a turn: a turn
+// for each, or for two, takes longer where its code lies across two lines of the cache, which is chance.
 pub fn past_others(table: &[u64], from: usize, mask: u64, key: u64) -> usize
     requires { ⌜ (length (now table) % 3 ≡ 0) × (from % 3 ≡ 0) × (from < length (now table)) ⌝ }
     ensures { λ r. ⌜ Passed mask key (now (table .entry)) from r ⌝ }
 {
     let mut i = from;
-    while i + 6 < table.len() {
+    while i + 12 < table.len() {
         if table[i + 4] & mask == key {
             return i;
         }
         if table[i + 7] & mask == key {
             return i + 3;
         }
-        i += 6;
+        if table[i + 10] & mask == key {
+            return i + 6;
+        }
+        if table[i + 13] & mask == key {
+            return i + 9;
+        }
+        i += 12;
     }
     i
 }

@@ -3,7 +3,7 @@ use Prim.Native.Nat.{_-_}
 use native.Mathlib.Omega.{arith}
 use lib.ListN.{length}
 use borrow.Author.Needs.{needs}
-use Rattle.laws.proofs.Passing.{pass-start, pass-more, pass-two}
+use Rattle.laws.proofs.Passing.{pass-start, pass-more, pass-two, pass-three, pass-four}
 use Rattle.laws.specs.Passed.{Passed}
 use Rattle.tags.proofs.passing.past_others.Statement.{statement}
 use Rattle.tags.proofs.passing.past_others.Tie as tie
@@ -50,6 +50,42 @@ returns-2 c =
     let l = c .before .before .before .before .before .loop in
     pass-more (a .mask) (a .key) (a .table .now) (a .from) (l .i) (l .inv) (omega (arith, c .before .before .before .before .loop-test .taken)) (c .before .before .if1 .left)
 
+add-if3 : tie.Need-add-if3 Inv-loop μ-loop
+add-if3 c = search needs
+
+mul-if3 : tie.Need-mul-if3 Inv-loop μ-loop
+mul-if3 c = search needs
+
+shared-slice-read-if3 : tie.Need-shared-slice-read-if3 Inv-loop μ-loop
+shared-slice-read-if3 c = search needs
+
+add-result-2 : tie.Need-add-result-2 Inv-loop μ-loop
+add-result-2 c = search needs
+
+returns-3 : tie.Need-returns-3 Inv-loop μ-loop
+returns-3 c =
+    let a = c .before .before .before .before .before .before .before .before .args in
+    let l = c .before .before .before .before .before .before .before .loop in
+    pass-two (a .mask) (a .key) (a .table .now) (a .from) (l .i) (l .inv) (omega (arith, c .before .before .before .before .before .before .loop-test .taken)) (c .before .before .before .before .if1 .left) (c .before .before .if2 .left)
+
+add-if4 : tie.Need-add-if4 Inv-loop μ-loop
+add-if4 c = search needs
+
+mul-if4 : tie.Need-mul-if4 Inv-loop μ-loop
+mul-if4 c = search needs
+
+shared-slice-read-if4 : tie.Need-shared-slice-read-if4 Inv-loop μ-loop
+shared-slice-read-if4 c = search needs
+
+add-result-3 : tie.Need-add-result-3 Inv-loop μ-loop
+add-result-3 c = search needs
+
+returns-4 : tie.Need-returns-4 Inv-loop μ-loop
+returns-4 c =
+    let a = c .before .before .before .before .before .before .before .before .before .before .args in
+    let l = c .before .before .before .before .before .before .before .before .before .loop in
+    pass-three (a .mask) (a .key) (a .table .now) (a .from) (l .i) (l .inv) (omega (arith, c .before .before .before .before .before .before .before .before .loop-test .taken)) (c .before .before .before .before .before .before .if1 .left) (c .before .before .before .before .if2 .left) (c .before .before .if3 .left)
+
 add-i : tie.Need-add-i Inv-loop μ-loop
 add-i c = search needs
 
@@ -58,12 +94,12 @@ loop-less c = search needs
 
 loop-again : tie.Need-loop-again Inv-loop μ-loop
 loop-again c =
-    let a = c .before .before .before .before .before .before .args in
-    let l = c .before .before .before .before .before .loop in
-    pass-two (a .mask) (a .key) (a .table .now) (a .from) (l .i) (l .inv) (c .before .before .before .before .loop-test .taken) (c .before .before .if1 .left) (c .if2 .left)
+    let a = c .before .before .before .before .before .before .before .before .before .before .args in
+    let l = c .before .before .before .before .before .before .before .before .before .loop in
+    pass-four (a .mask) (a .key) (a .table .now) (a .from) (l .i) (l .inv) (omega (arith, c .before .before .before .before .before .before .before .before .loop-test .taken)) (c .before .before .before .before .before .before .if1 .left) (c .before .before .before .before .if2 .left) (c .before .before .if3 .left) (c .if4 .left)
 
-returns-3 : tie.Need-returns-3 Inv-loop μ-loop
-returns-3 c = c .before .loop .inv
+returns-5 : tie.Need-returns-5 Inv-loop μ-loop
+returns-5 c = c .before .loop .inv
 
 pub past-others-spec : {M : Type 1} → statement M
 past-others-spec =
@@ -82,7 +118,17 @@ past-others-spec =
     shared-slice-read-if2
     add-result
     returns-2
+    add-if3
+    mul-if3
+    shared-slice-read-if3
+    add-result-2
+    returns-3
+    add-if4
+    mul-if4
+    shared-slice-read-if4
+    add-result-3
+    returns-4
     add-i
     loop-less
     loop-again
-    returns-3)
+    returns-5)
