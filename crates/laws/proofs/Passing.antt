@@ -12,7 +12,7 @@ use Rattle.laws.proofs.Slots.{Seeking, seek-next}
 use Rattle.laws.specs.Passed.{Passed}
 
 module _ (mask key : ℕ) (l : List ℕ) (i : ℕ) where
-  -- at the start, and one to four more
+  -- at the start, and one to eight more
   pub pass-start : i % 3 ≡ 0 → i < length l → Passed mask key l i i
   pass-start w h = record {
     from = omega arith;
@@ -65,6 +65,48 @@ module _ (mask key : ℕ) (l : List ℕ) (i : ℕ) where
       let two : Passed mask key l i (r + 6) = pass-two r s (omega arith) n m in
       subst (λ (x : ℕ). Passed mask key l i x) twelve
       (pass-two (r + 6) two low (moved (r + 10) (r + 6 + 4) (omega arith) o) (moved (r + 13) (r + 6 + 7) (omega arith) q))
+
+  pub pass-five : (r : ℕ) → Passed mask key l i r → r + 15 < length l → (bitAnd (getD l (r + 4) 0) mask ≡ key → ⊥) →
+      (bitAnd (getD l (r + 7) 0) mask ≡ key → ⊥) → (bitAnd (getD l (r + 10) 0) mask ≡ key → ⊥) → (bitAnd (getD l (r + 13) 0) mask ≡ key → ⊥) →
+      (bitAnd (getD l (r + 16) 0) mask ≡ key → ⊥) → Passed mask key l i (r + 15)
+  pass-five r s h n m o q t =
+      let end : r + 12 + 3 ≡ r + 15 = omega arith in
+      let low : r + 12 + 3 < length l = omega arith in
+      let four : Passed mask key l i (r + 12) = pass-four r s (omega arith) n m o q in
+      subst (λ (x : ℕ). Passed mask key l i x) end
+      (pass-more (r + 12) four low (moved (r + 16) (r + 12 + 4) (omega arith) t))
+
+  pub pass-six : (r : ℕ) → Passed mask key l i r → r + 18 < length l → (bitAnd (getD l (r + 4) 0) mask ≡ key → ⊥) →
+      (bitAnd (getD l (r + 7) 0) mask ≡ key → ⊥) → (bitAnd (getD l (r + 10) 0) mask ≡ key → ⊥) → (bitAnd (getD l (r + 13) 0) mask ≡ key → ⊥) →
+      (bitAnd (getD l (r + 16) 0) mask ≡ key → ⊥) → (bitAnd (getD l (r + 19) 0) mask ≡ key → ⊥) → Passed mask key l i (r + 18)
+  pass-six r s h n m o q t u =
+      let end : r + 12 + 6 ≡ r + 18 = omega arith in
+      let low : r + 12 + 6 < length l = omega arith in
+      let four : Passed mask key l i (r + 12) = pass-four r s (omega arith) n m o q in
+      subst (λ (x : ℕ). Passed mask key l i x) end
+      (pass-two (r + 12) four low (moved (r + 16) (r + 12 + 4) (omega arith) t) (moved (r + 19) (r + 12 + 7) (omega arith) u))
+
+  pub pass-seven : (r : ℕ) → Passed mask key l i r → r + 21 < length l → (bitAnd (getD l (r + 4) 0) mask ≡ key → ⊥) →
+      (bitAnd (getD l (r + 7) 0) mask ≡ key → ⊥) → (bitAnd (getD l (r + 10) 0) mask ≡ key → ⊥) → (bitAnd (getD l (r + 13) 0) mask ≡ key → ⊥) →
+      (bitAnd (getD l (r + 16) 0) mask ≡ key → ⊥) → (bitAnd (getD l (r + 19) 0) mask ≡ key → ⊥) → (bitAnd (getD l (r + 22) 0) mask ≡ key → ⊥) →
+      Passed mask key l i (r + 21)
+  pass-seven r s h n m o q t u v =
+      let end : r + 12 + 9 ≡ r + 21 = omega arith in
+      let low : r + 12 + 9 < length l = omega arith in
+      let four : Passed mask key l i (r + 12) = pass-four r s (omega arith) n m o q in
+      subst (λ (x : ℕ). Passed mask key l i x) end
+      (pass-three (r + 12) four low (moved (r + 16) (r + 12 + 4) (omega arith) t) (moved (r + 19) (r + 12 + 7) (omega arith) u) (moved (r + 22) (r + 12 + 10) (omega arith) v))
+
+  pub pass-eight : (r : ℕ) → Passed mask key l i r → r + 24 < length l → (bitAnd (getD l (r + 4) 0) mask ≡ key → ⊥) →
+      (bitAnd (getD l (r + 7) 0) mask ≡ key → ⊥) → (bitAnd (getD l (r + 10) 0) mask ≡ key → ⊥) → (bitAnd (getD l (r + 13) 0) mask ≡ key → ⊥) →
+      (bitAnd (getD l (r + 16) 0) mask ≡ key → ⊥) → (bitAnd (getD l (r + 19) 0) mask ≡ key → ⊥) → (bitAnd (getD l (r + 22) 0) mask ≡ key → ⊥) →
+      (bitAnd (getD l (r + 25) 0) mask ≡ key → ⊥) → Passed mask key l i (r + 24)
+  pass-eight r s h n m o q t u v w =
+      let end : r + 12 + 12 ≡ r + 24 = omega arith in
+      let low : r + 12 + 12 < length l = omega arith in
+      let four : Passed mask key l i (r + 12) = pass-four r s (omega arith) n m o q in
+      subst (λ (x : ℕ). Passed mask key l i x) end
+      (pass-four (r + 12) four low (moved (r + 16) (r + 12 + 4) (omega arith) t) (moved (r + 19) (r + 12 + 7) (omega arith) u) (moved (r + 22) (r + 12 + 10) (omega arith) v) (moved (r + 25) (r + 12 + 13) (omega arith) w))
 
   -- none of them, the first included, is what is looked for
   none : (r : ℕ) → Passed mask key l i r → i % 3 ≡ 0 → (bitAnd (getD l (i + 1) 0) mask ≡ key → ⊥) → (k : ℕ) → k < (r - i) / 3 + 1 →

@@ -3,7 +3,7 @@ use Prim.Native.Nat.{_-_}
 use native.Mathlib.Omega.{arith}
 use lib.ListN.{length}
 use borrow.Author.Needs.{needs}
-use Rattle.laws.proofs.Passing.{pass-start, pass-more, pass-two, pass-three, pass-four}
+use Rattle.laws.proofs.Passing.{pass-start, pass-more, pass-two, pass-three, pass-four, pass-five, pass-six, pass-seven, pass-eight}
 use Rattle.laws.specs.Passed.{Passed}
 use Rattle.tags.proofs.passing.past_others.Statement.{statement}
 use Rattle.tags.proofs.passing.past_others.Tie as tie
@@ -86,6 +86,78 @@ returns-4 c =
     let l = c .before .before .before .before .before .before .before .before .before .loop in
     pass-three (a .mask) (a .key) (a .table .now) (a .from) (l .i) (l .inv) (omega (arith, c .before .before .before .before .before .before .before .before .loop-test .taken)) (c .before .before .before .before .before .before .if1 .left) (c .before .before .before .before .if2 .left) (c .before .before .if3 .left)
 
+add-if5 : tie.Need-add-if5 Inv-loop μ-loop
+add-if5 c = search needs
+
+mul-if5 : tie.Need-mul-if5 Inv-loop μ-loop
+mul-if5 c = search needs
+
+shared-slice-read-if5 : tie.Need-shared-slice-read-if5 Inv-loop μ-loop
+shared-slice-read-if5 c = search needs
+
+add-result-4 : tie.Need-add-result-4 Inv-loop μ-loop
+add-result-4 c = search needs
+
+returns-5 : tie.Need-returns-5 Inv-loop μ-loop
+returns-5 c =
+    let a = c .before .before .before .before .before .before .before .before .before .before .before .before .args in
+    let l = c .before .before .before .before .before .before .before .before .before .before .before .loop in
+    pass-four (a .mask) (a .key) (a .table .now) (a .from) (l .i) (l .inv) (omega (arith, c .before .before .before .before .before .before .before .before .before .before .loop-test .taken)) (c .before .before .before .before .before .before .before .before .if1 .left) (c .before .before .before .before .before .before .if2 .left) (c .before .before .before .before .if3 .left) (c .before .before .if4 .left)
+
+add-if6 : tie.Need-add-if6 Inv-loop μ-loop
+add-if6 c = search needs
+
+mul-if6 : tie.Need-mul-if6 Inv-loop μ-loop
+mul-if6 c = search needs
+
+shared-slice-read-if6 : tie.Need-shared-slice-read-if6 Inv-loop μ-loop
+shared-slice-read-if6 c = search needs
+
+add-result-5 : tie.Need-add-result-5 Inv-loop μ-loop
+add-result-5 c = search needs
+
+returns-6 : tie.Need-returns-6 Inv-loop μ-loop
+returns-6 c =
+    let a = c .before .before .before .before .before .before .before .before .before .before .before .before .before .before .args in
+    let l = c .before .before .before .before .before .before .before .before .before .before .before .before .before .loop in
+    pass-five (a .mask) (a .key) (a .table .now) (a .from) (l .i) (l .inv) (omega (arith, c .before .before .before .before .before .before .before .before .before .before .before .before .loop-test .taken)) (c .before .before .before .before .before .before .before .before .before .before .if1 .left) (c .before .before .before .before .before .before .before .before .if2 .left) (c .before .before .before .before .before .before .if3 .left) (c .before .before .before .before .if4 .left) (c .before .before .if5 .left)
+
+add-if7 : tie.Need-add-if7 Inv-loop μ-loop
+add-if7 c = search needs
+
+mul-if7 : tie.Need-mul-if7 Inv-loop μ-loop
+mul-if7 c = search needs
+
+shared-slice-read-if7 : tie.Need-shared-slice-read-if7 Inv-loop μ-loop
+shared-slice-read-if7 c = search needs
+
+add-result-6 : tie.Need-add-result-6 Inv-loop μ-loop
+add-result-6 c = search needs
+
+returns-7 : tie.Need-returns-7 Inv-loop μ-loop
+returns-7 c =
+    let a = c .before .before .before .before .before .before .before .before .before .before .before .before .before .before .before .before .args in
+    let l = c .before .before .before .before .before .before .before .before .before .before .before .before .before .before .before .loop in
+    pass-six (a .mask) (a .key) (a .table .now) (a .from) (l .i) (l .inv) (omega (arith, c .before .before .before .before .before .before .before .before .before .before .before .before .before .before .loop-test .taken)) (c .before .before .before .before .before .before .before .before .before .before .before .before .if1 .left) (c .before .before .before .before .before .before .before .before .before .before .if2 .left) (c .before .before .before .before .before .before .before .before .if3 .left) (c .before .before .before .before .before .before .if4 .left) (c .before .before .before .before .if5 .left) (c .before .before .if6 .left)
+
+add-if8 : tie.Need-add-if8 Inv-loop μ-loop
+add-if8 c = search needs
+
+mul-if8 : tie.Need-mul-if8 Inv-loop μ-loop
+mul-if8 c = search needs
+
+shared-slice-read-if8 : tie.Need-shared-slice-read-if8 Inv-loop μ-loop
+shared-slice-read-if8 c = search needs
+
+add-result-7 : tie.Need-add-result-7 Inv-loop μ-loop
+add-result-7 c = search needs
+
+returns-8 : tie.Need-returns-8 Inv-loop μ-loop
+returns-8 c =
+    let a = c .before .before .before .before .before .before .before .before .before .before .before .before .before .before .before .before .before .before .args in
+    let l = c .before .before .before .before .before .before .before .before .before .before .before .before .before .before .before .before .before .loop in
+    pass-seven (a .mask) (a .key) (a .table .now) (a .from) (l .i) (l .inv) (omega (arith, c .before .before .before .before .before .before .before .before .before .before .before .before .before .before .before .before .loop-test .taken)) (c .before .before .before .before .before .before .before .before .before .before .before .before .before .before .if1 .left) (c .before .before .before .before .before .before .before .before .before .before .before .before .if2 .left) (c .before .before .before .before .before .before .before .before .before .before .if3 .left) (c .before .before .before .before .before .before .before .before .if4 .left) (c .before .before .before .before .before .before .if5 .left) (c .before .before .before .before .if6 .left) (c .before .before .if7 .left)
+
 add-i : tie.Need-add-i Inv-loop μ-loop
 add-i c = search needs
 
@@ -94,12 +166,12 @@ loop-less c = search needs
 
 loop-again : tie.Need-loop-again Inv-loop μ-loop
 loop-again c =
-    let a = c .before .before .before .before .before .before .before .before .before .before .args in
-    let l = c .before .before .before .before .before .before .before .before .before .loop in
-    pass-four (a .mask) (a .key) (a .table .now) (a .from) (l .i) (l .inv) (omega (arith, c .before .before .before .before .before .before .before .before .loop-test .taken)) (c .before .before .before .before .before .before .if1 .left) (c .before .before .before .before .if2 .left) (c .before .before .if3 .left) (c .if4 .left)
+    let a = c .before .before .before .before .before .before .before .before .before .before .before .before .before .before .before .before .before .before .args in
+    let l = c .before .before .before .before .before .before .before .before .before .before .before .before .before .before .before .before .before .loop in
+    pass-eight (a .mask) (a .key) (a .table .now) (a .from) (l .i) (l .inv) (omega (arith, c .before .before .before .before .before .before .before .before .before .before .before .before .before .before .before .before .loop-test .taken)) (c .before .before .before .before .before .before .before .before .before .before .before .before .before .before .if1 .left) (c .before .before .before .before .before .before .before .before .before .before .before .before .if2 .left) (c .before .before .before .before .before .before .before .before .before .before .if3 .left) (c .before .before .before .before .before .before .before .before .if4 .left) (c .before .before .before .before .before .before .if5 .left) (c .before .before .before .before .if6 .left) (c .before .before .if7 .left) (c .if8 .left)
 
-returns-5 : tie.Need-returns-5 Inv-loop μ-loop
-returns-5 c = c .before .loop .inv
+returns-9 : tie.Need-returns-9 Inv-loop μ-loop
+returns-9 c = c .before .loop .inv
 
 pub past-others-spec : {M : Type 1} → statement M
 past-others-spec =
@@ -128,7 +200,27 @@ past-others-spec =
     shared-slice-read-if4
     add-result-3
     returns-4
+    add-if5
+    mul-if5
+    shared-slice-read-if5
+    add-result-4
+    returns-5
+    add-if6
+    mul-if6
+    shared-slice-read-if6
+    add-result-5
+    returns-6
+    add-if7
+    mul-if7
+    shared-slice-read-if7
+    add-result-6
+    returns-7
+    add-if8
+    mul-if8
+    shared-slice-read-if8
+    add-result-7
+    returns-8
     add-i
     loop-less
     loop-again
-    returns-5)
+    returns-9)
