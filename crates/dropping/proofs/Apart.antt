@@ -1,38 +1,35 @@
 -- What the end of its span says of a slot: one that lies apart from the range is not dropped, and an entry that is left is met.
 use Prim.Native.Nat.{ℕ, _+_, _/_, _-_, _%_, _^_, _<_, _≤_}
 use mathlib.Core.Bool.{true, false, cond}
-use mathlib.Core.Path.{_≡_, sym, ap, ap₂, _∙_}
-use native.Mathlib.Nat.{div-div-eq-div-mul}
+use mathlib.Core.Path.{_≡_, sym, ap, _∙_}
 use native.Mathlib.Omega.{arith}
-use lib.Dec.{eqb, leb}
+use lib.Dec.{leb}
 use borrow.Author.Tests.{leb-true, le-leb}
 use Rattle.laws.proofs.Truth.{and-0, and-1, not-so}
 use Rattle.laws.specs.Bits.{bits}
-use Rattle.laws.specs.Mask.{bitOf}
 use Rattle.machine.proofs.Going.{going, drop-reads, drop-entry}
 use Rattle.machine.proofs.Spans.{span-most}
 use Rattle.machine.specs.Entry.{spanOf}
 use Rattle.machine.specs.Goes.{isMet, keyOf, drops}
-use Rattle.machine.specs.Span.{exponentAt, meetsRange}
+use Rattle.machine.specs.Span.{meetsRange}
 use Rattle.machine.specs.Tag.{companyTag, entryAt, isEntry}
 use Rattle.machine.specs.declared.work.Work.{Work}
-use Rattle.tags.proofs.Parts.{span-numbers, entry-legal}
-use Rattle.dropping.specs.Ends.{spanIn, endAt}
+use Rattle.tags.proofs.Parts.{span-in, end-place, entry-legal}
+use Rattle.tags.specs.Ends.{spanIn, endAt, endOf}
 
 -- the slot's own is found by four bits of its tag: width and height stand there, and the granule is the key's
 own-span : (w : Work) (tag : ℕ) → tag % 2 ^ 28 ≡ keyOf w → companyTag (w .company) < 2 ^ 26 → w .granule ≤ 3 →
     spanIn (w .granule) (tag / 2 ^ 45 % 16) ≡ spanOf (entryAt 0 tag)
 own-span w tag e low g =
-    let x : ℕ = tag / 2 ^ 45 % 16 in
     let tg : w .granule ≡ bits 27 26 tag = omega (arith, e, low, g) in
-    let wide : x % 2 ≡ tag / 2 ^ 45 % 2 = omega arith in
-    let height : x / 2 ≡ bits 48 46 tag = halved (tag / 2 ^ 45) ∙ ap (λ (q : ℕ). q % 8) (div-div-eq-div-mul tag (2 ^ 45) 2) in
-    ap (λ (b : ℕ). exponentAt (eqb b 1) (w .granule) (x / 2)) wide
-    ∙ ap₂ (λ (t h : ℕ). exponentAt (bitOf tag 45) t h) tg height
-    ∙ span-numbers tag
-  where
-    halved : (t : ℕ) → t % 16 / 2 ≡ t / 2 % 8
-    halved t = omega arith
+    ap (λ (t : ℕ). spanIn t (bits 48 45 tag)) tg ∙ span-in tag
+
+-- so that its end is the tag's
+pub own-place : (w : Work) (tag : ℕ) → tag % 2 ^ 28 ≡ keyOf w → companyTag (w .company) < 2 ^ 26 → 1 ≤ w .granule → w .granule ≤ 3 →
+    endAt (w .granule) (tag / 2 ^ 45 % 16) ≡ endOf tag
+own-place w tag e low some g =
+    let tg : w .granule ≡ bits 27 26 tag = omega (arith, e, low, g) in
+    ap (λ (t : ℕ). endAt t (bits 48 45 tag)) tg ∙ sym (end-place tag (omega (arith, tg, some)))
 
 -- it is one less than the span has addresses, if the slot reads as an entry
 own-end : (w : Work) (base tag : ℕ) → tag % 2 ^ 28 ≡ keyOf w → companyTag (w .company) < 2 ^ 26 → w .granule ≤ 3 → isEntry base tag ≡ true →

@@ -8,7 +8,8 @@ use lib.ListN.{getD}
 use borrow.Author.Tests.{eqb-true}
 use Rattle.laws.proofs.Every.{at}
 use Rattle.laws.specs.Every.{every}
-use Rattle.dropping.specs.Ends.{endAt, AreEnds}
+use Rattle.tags.specs.Ends.{endAt}
+use Rattle.dropping.specs.Ends.{AreEnds}
 
 abbrev pub row : ℕ → List ℕ
 row g =

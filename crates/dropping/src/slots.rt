@@ -65,10 +65,11 @@ fn is_dropped(work: Work, ends: &[u64; 16], base: u64, tag: u64) -> bool
         return false;
     }
     let x = (tag / 0x200000000000 % 16) as usize;
-    if is_before(base, ends[x], work.first) {
+    let end = ends[x];
+    if is_before(base, end, work.first) {
         return false;
     }
-    if !is_rest(base, tag) {
+    if !is_rest(base, tag, end) {
         return false;
     }
     let entry = entry_at(base, tag);

@@ -1,11 +1,9 @@
-// Entries: the companies they can have, which are legal, and their spans.
+// Entries: the companies they can have, the addresses in their reach, and their spans.
 mod company;
-mod legal;
+mod reach;
 mod span;
 
 pub use company::has_asids;
 pub use company::is_company;
-pub use legal::in_reach;
-pub use legal::is_legal;
-pub use legal::is_placed;
+pub use reach::in_reach;
 pub use span::span_of;

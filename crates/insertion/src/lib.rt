@@ -2,3 +2,4 @@
 mod insert;
 
 pub use insert::insert_entry;
+pub use insert::refuse_entry;

@@ -1,16 +1,18 @@
 -- Whose a slot is and what is in its reach, by the numbers of its tag.
-use Prim.Native.Nat.{ℕ, zero, suc, _+_, _*_, _/_, _^_, _<_, _≤_}
+use Prim.Native.Nat.{ℕ, zero, suc, _+_, _*_, _/_, _%_, _^_, _<_, _≤_}
 use mathlib.Core.Bool.{Bool, true, false, not, _&&_, _||_}
-use mathlib.Core.Path.{_≡_, refl}
-use native.Mathlib.Nat.{mod-lt}
+use mathlib.Core.Path.{_≡_, refl, ap, ap₂, _∙_}
+use native.Mathlib.Nat.{mod-lt, div-div-eq-div-mul}
 use native.Mathlib.Omega.{arith}
 use lib.Dec.{eqb, ltb}
+use lib.IntN.{pos, _-ℤ_}
 use borrow.Author.Tests.{eqb-true, eqb-false, eq-eqb, ne-eqb}
+use Rattle.laws.proofs.Mask.{mask-bit}
 use Rattle.laws.proofs.Truth.{or-right}
 use Rattle.laws.specs.Bits.{bits}
-use Rattle.laws.specs.Mask.{bitOf}
+use Rattle.laws.specs.Mask.{bitOf, maskFrom}
 use Rattle.machine.specs.Asked.{isTwoRanges}
-use Rattle.machine.specs.Entry.{isEL10, isRoot, isStateOf, isCompany, hasAsids, inReach}
+use Rattle.machine.specs.Entry.{isEL10, isRoot, isStateOf, isCompany, hasAsids, isPlaced, inReach}
 use Rattle.machine.specs.State.{isSecure}
 use Rattle.machine.specs.Tag.{regimeAt, securityAt, companyAt}
 use Rattle.machine.specs.declared.scope.Regime.{Regime}
@@ -146,3 +148,33 @@ reach-one base tag h =
     let u : bits 44 28 tag ≡ bits 43 28 tag + bits 44 44 tag * 2 ^ 16 = omega arith in
     let w = both (bits 44 28 tag) (bits 43 28 tag) (bits 44 44 tag) (omega arith) (omega arith) in
     simp (h, w, off (bits 44 44 tag) (mod-lt (tag / 2 ^ 44) (omega arith)))
+
+-- how an entry can stand, by global flag, width, height and leaf bit as one number
+abbrev placedIn : ℕ → Bool
+placedIn p = isPlaced (bitOf p 5) (pos 3 -ℤ pos (bits 4 2 p)) (bitOf p 0)
+
+pub placed-mask : 0xFFF00055550 ≡ maskFrom placedIn 0 64
+unfolding maskFrom
+placed-mask = refl
+
+pub placed-number : (tag : ℕ) → bitOf (maskFrom placedIn 0 64) (bits 49 44 tag) ≡ isPlaced (bitOf tag 49) (pos 3 -ℤ pos (bits 48 46 tag)) (bitOf tag 44)
+placed-number tag =
+    let p : ℕ = bits 49 44 tag in
+    let t : ℕ = tag / 2 ^ 44 in
+    let leaf : p / 2 ^ 5 % 2 ≡ tag / 2 ^ 49 % 2 = top t ∙ ap (λ (q : ℕ). q % 2) (div-div-eq-div-mul tag (2 ^ 44) 32) in
+    let height : bits 4 2 p ≡ bits 48 46 tag = middle t ∙ ap (λ (q : ℕ). q % 8) (div-div-eq-div-mul tag (2 ^ 44) 4) in
+    let global : p / 2 ^ 0 % 2 ≡ tag / 2 ^ 44 % 2 = lowest t in
+    let same : 0 + p ≡ p = omega arith in
+    mask-bit placedIn 0 64 p (mod-lt t (omega arith))
+    ∙ ap placedIn same
+    ∙ ap (λ (b : ℕ). isPlaced (eqb b 1) (pos 3 -ℤ pos (bits 4 2 p)) (bitOf p 0)) leaf
+    ∙ ap₂ (λ (h b : ℕ). isPlaced (bitOf tag 49) (pos 3 -ℤ pos h) (eqb b 1)) height global
+  where
+    top : (t : ℕ) → t % 64 / 32 % 2 ≡ t / 32 % 2
+    top t = omega arith
+
+    middle : (t : ℕ) → t % 64 / 4 % 8 ≡ t / 4 % 8
+    middle t = omega arith
+
+    lowest : (t : ℕ) → t % 64 / 1 % 2 ≡ t % 2
+    lowest t = omega arith

@@ -1,4 +1,4 @@
--- The rules of a slot that are left where its layout number, granule and company are an entry's.
+-- The rules of a slot that are left where its layout number and company are an entry's.
 use Prim.Native.Nat.{ℕ, _%_, _^_}
 use mathlib.Core.Bool.{Bool, not, _&&_, _||_}
 use lib.Dec.{eqb, ltb, leb}
@@ -11,11 +11,11 @@ use Rattle.machine.specs.Tag.{companyAt, entryAt}
 abbrev pub isReach : ℕ → ℕ → Bool
 isReach base tag = (hasAsids (companyAt tag) || (eqb (bits 43 28 tag) 0 && not (bitOf tag 44))) && inReach (companyAt tag) base
 
--- nothing above bit 53, a span, a base that is a multiple of it, a level for a leaf or none, and the reach
+-- nothing above bit 53, a granule and a span of it, a base that is a multiple of that, a level for a leaf or none, and the reach
 unfoldable pub isRest : ℕ → ℕ → Bool
 isRest base tag =
     ltb tag (2 ^ 54)
-    && leb (spanOf (entryAt 0 tag)) 54
+    && (leb 1 (bits 27 26 tag) && leb (spanOf (entryAt 0 tag)) 54)
     && eqb (base % 2 ^ spanOf (entryAt 0 tag)) 0
     && isPlaced (entryAt 0 tag .leaf) (entryAt 0 tag .level) (entryAt 0 tag .global)
     && isReach base tag

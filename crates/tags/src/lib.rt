@@ -1,4 +1,5 @@
 // Tags: a slot's base and tag written from an entry, and read as one.
+mod end;
 mod number;
 mod passing;
 mod slot;
@@ -15,5 +16,5 @@ pub use slot::is_entry;
 pub use slot::is_rest;
 pub use slot::span_at;
 pub use tag::company_tag;
+pub use tag::placed_tag;
 pub use tag::same_company;
-pub use tag::tag_of;

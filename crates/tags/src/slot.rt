@@ -1,16 +1,20 @@
 // What a slot's base and tag read as.
 ghost use mathlib.Core.Path.{_≡_};
-ghost use Rattle.machine.specs.Entry.{isCompany, spanOf};
+ghost use lib.IntN.{pos, _-ℤ_};
+ghost use Rattle.laws.specs.Bits.{bits};
+ghost use Rattle.laws.specs.Mask.{bitOf};
+ghost use Rattle.machine.specs.Entry.{isCompany, isPlaced, spanOf};
 ghost use Rattle.machine.specs.Tag.{companyAt, entryAt, isEntry};
+ghost use Rattle.tags.specs.Ends.{endOf};
 ghost use Rattle.tags.specs.Rest.{isReach, isRest};
+use crate::end::end_at;
 use crate::number::level_at;
 use crate::number::regime_at;
 use crate::number::security_at;
-use entries::is_placed;
 use machine::Company;
 use machine::Entry;
+use spans::bit_of;
 use spans::exponent_at;
-use spans::is_multiple;
 
 fn company_at(tag: u64) -> Company
     ensures { λ r. ⌜ r ≡ companyAt tag ⌝ }
@@ -93,6 +97,15 @@ fn is_reach_at(base: u64, tag: u64) -> bool
     }
 }
 
+// Where global flag, width, height and leaf bit, side by side, are those of an entry that can stand so: a bit for each of the 64 numbers that they can be.
+const PLACED: u64 = 0xFFF00055550;
+
+fn is_placed_at(tag: u64) -> bool
+    ensures { λ r. ⌜ r ≡ isPlaced (bitOf tag 49) (pos 3 -ℤ pos (bits 48 46 tag)) (bitOf tag 44) ⌝ }
+{
+    bit_of(PLACED, tag / 0x100000000000 % 64)
+}
+
 // The layout number, nothing above bit 53, and the fields of a legal entry, which is not made: a table's every slot is tested.
 pub fn is_entry(base: u64, tag: u64) -> bool
     ensures { λ r. ⌜ r ≡ isEntry base tag ⌝ }
@@ -100,33 +113,29 @@ pub fn is_entry(base: u64, tag: u64) -> bool
     if tag % 16 != 1 {
         return false;
     }
-    if !is_rest(base, tag) {
-        return false;
-    }
-    if tag / 0x4000000 % 4 == 0 {
+    let end = end_at(tag);
+    if !is_rest(base, tag, end) {
         return false;
     }
     is_company_at(tag)
 }
 
-// What is left to test of a slot whose layout number, granule and company are an entry's, as they are where its lower part is a key.
-pub fn is_rest(base: u64, tag: u64) -> bool
+// What is left to test of a slot whose layout number and company are an entry's, as they are where its lower part is a key. The end is how far the
+// last address of its span lies from its base, which has none of its bits.
+pub fn is_rest(base: u64, tag: u64, end: u64) -> bool
+    requires { ⌜ end ≡ endOf tag ⌝ }
     ensures { λ r. ⌜ r ≡ isRest base tag ⌝ }
 {
     if 0x40000000000000 <= tag {
         return false;
     }
-    let k = span_at(tag);
-    if 54 < k {
+    if end == 0 {
         return false;
     }
-    if !is_multiple(base, k) {
+    if base & end != 0 {
         return false;
     }
-    let leaf = tag / 0x2000000000000 % 2 == 1;
-    let global = tag / 0x100000000000 % 2 == 1;
-    let level = level_at(tag);
-    if !is_placed(leaf, level, global) {
+    if !is_placed_at(tag) {
         return false;
     }
     is_reach_at(base, tag)

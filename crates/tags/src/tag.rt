@@ -4,13 +4,15 @@ ghost use mathlib.Core.Bool.{true};
 ghost use mathlib.Core.Path.{_≡_};
 ghost use Rattle.machine.specs.Entry.{isLegal};
 ghost use Rattle.machine.specs.Table.{sameCompany};
-ghost use Rattle.machine.specs.Tag.{entryPlaces, companyTag, tagOf};
+ghost use Rattle.machine.specs.Tag.{entryPlaces, companyTag, tagOf, Sized, isEntry};
+ghost use Rattle.tags.specs.Places.{hasPlaces, placedTag};
 use crate::number::flag;
 use crate::number::regime_number;
 use crate::number::security_number;
 use machine::Company;
 use machine::Entry;
 use spans::height_of;
+use spans::is_level;
 
 pub fn company_tag(company: Company) -> u64
     ensures { λ r. ⌜ (r ≡ companyTag company) × (r < 2 ^ 26) ⌝ }
@@ -36,9 +38,32 @@ pub fn same_company(own: Company, other: Company) -> bool
     company_tag(own) == company_tag(other)
 }
 
-pub fn tag_of(entry: Entry) -> u64
-    requires { ⌜ isLegal entry ≡ true ⌝ }
-    ensures { λ r. ⌜ r ≡ tagOf entry ⌝ }
+fn has_places(entry: Entry) -> bool
+    ensures { λ r. ⌜ r ≡ hasPlaces entry ⌝ }
+{
+    if 7 < entry.processor {
+        return false;
+    }
+    if 3 < entry.granule {
+        return false;
+    }
+    is_level(entry.level)
+}
+
+// The tag of any entry, and 0, which is none, of one that has no places in it: an entry is legal exactly if its base and this tag read as one.
+pub fn placed_tag(entry: Entry) -> u64
+    ensures { λ r. ⌜ r ≡ placedTag entry ⌝ }
+    ensures { λ r. ⌜ isEntry (entry .base) r ≡ isLegal entry ⌝ }
+{
+    if has_places(entry) {
+        return tag_of(entry);
+    }
+    0
+}
+
+fn tag_of(entry: Entry) -> u64
+    requires { ⌜ hasPlaces entry ≡ true ⌝ }
+    ensures { λ r. ⌜ (r ≡ tagOf entry) × Sized entry ⌝ }
 {
     let company = company_tag(entry.company);
     let global = flag(entry.global);

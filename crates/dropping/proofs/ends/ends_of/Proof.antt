@@ -6,7 +6,7 @@ use Rattle.dropping.proofs.Rows.{row-ends}
 use Rattle.dropping.proofs.ends.ends_of.Statement.{statement}
 use Rattle.dropping.proofs.ends.ends_of.Tie as tie
 use Rattle.machine.specs.Span.{exponentAt}
-use Rattle.dropping.specs.Ends.{endAt}
+use Rattle.tags.specs.Ends.{endAt}
 
 returns : tie.Need-returns
 unfolding every endAt exponentAt

@@ -10,7 +10,7 @@ use Rattle.machine.proofs.Going.{drop-own, drop-empty, drop-entry}
 use Rattle.machine.proofs.Tags.{reads-written}
 use Rattle.machine.specs.Entry.{isLegal}
 use Rattle.machine.specs.Goes.{isOwned, isGranuleOf, isMet, goes}
-use Rattle.dropping.proofs.Apart.{drop-above, drop-below, end-met}
+use Rattle.dropping.proofs.Apart.{own-place, drop-above, drop-below, end-met}
 use Rattle.dropping.proofs.Keyed.{keyed}
 use Rattle.dropping.proofs.slots.is_dropped.Statement.{statement}
 use Rattle.dropping.proofs.slots.is_dropped.Tie as tie
@@ -19,11 +19,11 @@ use Rattle.tags.proofs.Parts.{rest-empty, rest-entry}
 returns : tie.Need-returns
 returns c = let a = c .before .before .args in sym (drop-above (a .work) (a .base) (a .tag) 0 (c .if1 .taken))
 
-mul-is-before : tie.Need-mul-is-before
-mul-is-before c = search needs
+mul-end : tie.Need-mul-end
+mul-end c = search needs
 
-element-copy-out-is-before : tie.Need-element-copy-out-is-before
-element-copy-out-is-before c = search needs
+element-copy-out-end : tie.Need-element-copy-out-end
+element-copy-out-end c = search needs
 
 is-before-requires : tie.Need-is-before-requires
 is-before-requires c κs = search needs
@@ -37,7 +37,10 @@ returns-2 c =
     sym (drop-below (a .work) (a .base) (a .tag) 0 (p .0 .0) (p .0 .1) (p .1 .1) (omega (arith, own, before)))
 
 is-rest-requires : tie.Need-is-rest-requires
-is-rest-requires c κs = search needs
+is-rest-requires c κs =
+    let a = c .before .before .before .before .before .args in
+    let p = c .before .before .before .before .before .pre in
+    p .0 .3 (a .tag / 2 ^ 45 % 16) (mod-lt (a .tag / 2 ^ 45) (omega arith)) ∙ own-place (a .work) (a .tag) (p .0 .0) (p .0 .1) (p .1 .0) (p .1 .1)
 
 returns-3 : tie.Need-returns-3
 returns-3 c =
@@ -51,8 +54,8 @@ goes-requires : tie.Need-goes-requires
 goes-requires c κs =
     let a = c .before .before .before .before .before .before .before .before .args in
     let p = c .before .before .before .before .before .before .before .before .pre in
-    let k = keyed (a .work) (a .tag) (p .0 .0) (p .0 .1) (p .0 .2) (p .1 .0) (p .1 .1) (p .1 .2) in
-    let h = sym (rest-entry (a .base) (a .tag) (k .0) (k .1) (k .2)) ∙ sym (c .before .before .is-rest .ensures) ∙ not-false _ (c .before .if3 .left) in
+    let k = keyed (a .work) (a .tag) (p .0 .0) (p .0 .1) (p .0 .2) (p .1 .1) (p .1 .2) in
+    let h = sym (rest-entry (a .base) (a .tag) (k .0) (k .1)) ∙ sym (c .before .before .is-rest .ensures) ∙ not-false _ (c .before .if3 .left) in
     let e = c .entry-at .ensures in
     let own = drop-own (a .work) (a .base) (a .tag) h (p .0 .0) (p .0 .1) (p .0 .2) (p .1 .1) in
     let low = p .0 .3 (a .tag / 2 ^ 45 % 16) (mod-lt (a .tag / 2 ^ 45) (omega arith)) in
@@ -64,8 +67,8 @@ returns-4 : tie.Need-returns-4
 returns-4 c =
     let a = c .before .before .before .before .before .before .before .before .before .args in
     let p = c .before .before .before .before .before .before .before .before .before .pre in
-    let k = keyed (a .work) (a .tag) (p .0 .0) (p .0 .1) (p .0 .2) (p .1 .0) (p .1 .1) (p .1 .2) in
-    let h = sym (rest-entry (a .base) (a .tag) (k .0) (k .1) (k .2)) ∙ sym (c .before .before .before .is-rest .ensures) ∙ not-false _ (c .before .before .if3 .left) in
+    let k = keyed (a .work) (a .tag) (p .0 .0) (p .0 .1) (p .0 .2) (p .1 .1) (p .1 .2) in
+    let h = sym (rest-entry (a .base) (a .tag) (k .0) (k .1)) ∙ sym (c .before .before .before .is-rest .ensures) ∙ not-false _ (c .before .before .if3 .left) in
     c .goes .ensures ∙ ap (goes (a .work)) (c .before .entry-at .ensures) ∙ sym (drop-entry (a .work) (a .base) (a .tag) 0 h)
 
 pub is-dropped-spec : {M : Type 1} → statement M
@@ -73,8 +76,8 @@ is-dropped-spec =
     tie.close
     (tie.spec
     returns
-    mul-is-before
-    element-copy-out-is-before
+    mul-end
+    element-copy-out-end
     is-before-requires
     returns-2
     is-rest-requires

@@ -1,68 +1,59 @@
 -- `tags::slot::is_rest` meets its contract.
 use Prim.Native.Nat.{ℕ, _%_, _^_}
-use mathlib.Core.Path.{sym, ap, _∙_}
-use lib.Dec.{eqb, leb}
-use lib.IntN.{ℤ}
-use mir.Syntax.{w8}
-use mir.ValLaws.{toZ-ofZ}
+use mathlib.Core.Path.{_≡_, sym, ap, _∙_}
+use lib.Bits.{bitAnd, and-mask}
 use borrow.Author.Needs.{needs}
-use borrow.Author.Tests.{not-true, not-false, le-ltb, lt-ltb, le-leb, lt-leb}
-use Rattle.machine.specs.Entry.{isPlaced}
+use borrow.Author.Tests.{not-true, not-false, le-ltb, lt-ltb, eq-eqb, ne-eqb}
+use Rattle.machine.specs.Entry.{spanOf}
 use Rattle.machine.specs.Tag.{entryAt}
+use Rattle.tags.proofs.Parts.{end-none, end-some}
 use Rattle.tags.proofs.slot.is_rest.Statement.{statement}
 use Rattle.tags.proofs.slot.is_rest.Tie as tie
+use Rattle.tags.specs.Ends.{endOf}
 use Rattle.tags.specs.Rest.{isRest}
+
+-- the bits of a base below the end of a span are what is left of it by the span
+under : (base tag end : ℕ) → end ≡ endOf tag → (end ≡ 0 → ⊥) → bitAnd base end ≡ base % 2 ^ spanOf (entryAt 0 tag)
+under base tag end e n =
+    ap (bitAnd base) (e ∙ end-some tag (λ (z : endOf tag ≡ 0). n (e ∙ z)) .1) ∙ and-mask base (spanOf (entryAt 0 tag))
 
 returns : tie.Need-returns
 unfolding isRest
 returns c = simp (le-ltb _ _ (c .if1 .taken))
 
-span-at-requires : tie.Need-span-at-requires
-span-at-requires c κs = search needs
-
 returns-2 : tie.Need-returns-2
 unfolding isRest
 returns-2 c =
-    let k = c .before .span-at in
-    simp (lt-ltb _ _ (c .before .before .if1 .left), ap (λ (j : ℕ). leb j 54) (sym (k .ensures)) ∙ lt-leb _ _ (c .if2 .taken))
-
-is-multiple-requires : tie.Need-is-multiple-requires
-is-multiple-requires c κs = search needs
+    let a = c .before .before .args in
+    simp (lt-ltb _ _ (c .before .if1 .left), end-none (a .tag) (sym (c .before .before .pre) ∙ c .if2 .taken))
 
 returns-3 : tie.Need-returns-3
 unfolding isRest
 returns-3 c =
-    let a = c .before .before .before .before .before .args in
-    let k = c .before .before .before .span-at in
+    let a = c .before .before .before .args in
+    let e = c .before .before .before .pre in
+    let n = c .before .if2 .left in
     simp (
-      lt-ltb _ _ (c .before .before .before .before .if1 .left),
-      ap (λ (j : ℕ). leb j 54) (sym (k .ensures)) ∙ le-leb _ _ (c .before .before .if2 .left),
-      ap (λ (j : ℕ). eqb (a .base % 2 ^ j) 0) (sym (k .ensures)) ∙ sym (c .before .is-multiple .ensures) ∙ not-true _ (c .if3 .taken),
+      lt-ltb _ _ (c .before .before .if1 .left),
+      end-some (a .tag) (λ (z : endOf (a .tag) ≡ 0). n (e ∙ z)) .0,
+      ne-eqb (a .base % 2 ^ spanOf (entryAt 0 (a .tag))) 0 (λ (z : a .base % 2 ^ spanOf (entryAt 0 (a .tag)) ≡ 0). c .if3 .taken (under (a .base) (a .tag) (a .end) e n ∙ z)),
     )
 
-level-at-requires : tie.Need-level-at-requires
-level-at-requires c κs = search needs
-
-is-placed-requires : tie.Need-is-placed-requires
-is-placed-requires c κs = search needs
+is-placed-at-requires : tie.Need-is-placed-at-requires
+is-placed-at-requires c κs = search needs
 
 returns-4 : tie.Need-returns-4
 unfolding isRest entryAt
 returns-4 c =
-    let at-level = c .before .before in
-    let at-multiple = at-level .before .before in
-    let at-span = at-multiple .before .before in
-    let a = at-span .before .before .args in
-    let e = entryAt 0 (a .tag) in
-    let k = at-span .span-at in
-    let l = at-level .level-at in
-    let z = toZ-ofZ w8 (l .result) (search needs) in
-    let p = c .before .is-placed .ensures ∙ ap (λ (m : ℤ). isPlaced (e .leaf) m (e .global)) (z ∙ l .ensures) in
+    let at-multiple = c .before .before in
+    let a = at-multiple .before .before .before .args in
+    let e = at-multiple .before .before .before .pre in
+    let n = at-multiple .before .if2 .left in
     simp (
-      lt-ltb _ _ (at-span .before .if1 .left),
-      ap (λ (j : ℕ). leb j 54) (sym (k .ensures)) ∙ le-leb _ _ (at-multiple .before .if2 .left),
-      ap (λ (j : ℕ). eqb (a .base % 2 ^ j) 0) (sym (k .ensures)) ∙ sym (at-multiple .is-multiple .ensures) ∙ not-false _ (at-level .before .if3 .left),
-      sym p ∙ not-true _ (c .if4 .taken),
+      lt-ltb _ _ (at-multiple .before .before .if1 .left),
+      end-some (a .tag) (λ (z : endOf (a .tag) ≡ 0). n (e ∙ z)) .0,
+      eq-eqb (a .base % 2 ^ spanOf (entryAt 0 (a .tag))) 0 (sym (under (a .base) (a .tag) (a .end) e n) ∙ at-multiple .if3 .left),
+      sym (c .before .is-placed-at .ensures) ∙ not-true _ (c .if4 .taken),
     )
 
 is-reach-at-requires : tie.Need-is-reach-at-requires
@@ -71,20 +62,15 @@ is-reach-at-requires c κs = search needs
 returns-5 : tie.Need-returns-5
 unfolding isRest entryAt
 returns-5 c =
-    let at-level = c .before .before .before in
-    let at-multiple = at-level .before .before in
-    let at-span = at-multiple .before .before in
-    let a = at-span .before .before .args in
-    let e = entryAt 0 (a .tag) in
-    let k = at-span .span-at in
-    let l = at-level .level-at in
-    let z = toZ-ofZ w8 (l .result) (search needs) in
-    let p = c .before .before .is-placed .ensures ∙ ap (λ (m : ℤ). isPlaced (e .leaf) m (e .global)) (z ∙ l .ensures) in
+    let at-multiple = c .before .before .before in
+    let a = at-multiple .before .before .before .args in
+    let e = at-multiple .before .before .before .pre in
+    let n = at-multiple .before .if2 .left in
     simp (
-      lt-ltb _ _ (at-span .before .if1 .left),
-      ap (λ (j : ℕ). leb j 54) (sym (k .ensures)) ∙ le-leb _ _ (at-multiple .before .if2 .left),
-      ap (λ (j : ℕ). eqb (a .base % 2 ^ j) 0) (sym (k .ensures)) ∙ sym (at-multiple .is-multiple .ensures) ∙ not-false _ (at-level .before .if3 .left),
-      sym p ∙ not-false _ (c .before .if4 .left),
+      lt-ltb _ _ (at-multiple .before .before .if1 .left),
+      end-some (a .tag) (λ (z : endOf (a .tag) ≡ 0). n (e ∙ z)) .0,
+      eq-eqb (a .base % 2 ^ spanOf (entryAt 0 (a .tag))) 0 (sym (under (a .base) (a .tag) (a .end) e n) ∙ at-multiple .if3 .left),
+      sym (c .before .before .is-placed-at .ensures) ∙ not-false _ (c .before .if4 .left),
       c .is-reach-at .ensures,
     )
 
@@ -93,12 +79,9 @@ is-rest-spec =
     tie.close
     (tie.spec
     returns
-    span-at-requires
     returns-2
-    is-multiple-requires
     returns-3
-    level-at-requires
-    is-placed-requires
+    is-placed-at-requires
     returns-4
     is-reach-at-requires
     returns-5)

@@ -4,10 +4,9 @@ use native.Mathlib.Omega.{arith}
 use mir.Syntax.{w8}
 use mir.ValLaws.{toZ-ofZ}
 use borrow.Author.Needs.{needs, sfits-of}
-use Rattle.machine.proofs.Spans.{span-tg-most, span-level}
-use Rattle.machine.proofs.Tags.{legal}
 use Rattle.machine.specs.Span.{isLevel, heightOf}
 use Rattle.machine.specs.Tag.{tagOf}
+use Rattle.tags.proofs.Places.{has-places}
 use Rattle.tags.proofs.tag.tag_of.Statement.{statement}
 use Rattle.tags.proofs.tag.tag_of.Tie as tie
 
@@ -23,7 +22,7 @@ flag-requires-2 c κs = search needs
 height-of-requires : tie.Need-height-of-requires
 height-of-requires c κs =
     let e = c .before .before .before .before .args .entry in
-    ap isLevel (toZ-ofZ w8 (e .level) (search needs)) ∙ span-level (e .wide) (e .granule) (e .level) (legal e (c .before .before .before .before .pre) .span)
+    ap isLevel (toZ-ofZ w8 (e .level) (search needs)) ∙ has-places e (c .before .before .before .before .pre) .2
 
 flag-requires-3 : tie.Need-flag-requires-3
 flag-requires-3 c κs = search needs
@@ -43,15 +42,15 @@ cast-in-places-3 c = search needs
 in-places-requires : tie.Need-in-places-requires
 in-places-requires c κs =
     let e = c .before .before .before .before .before .before .before .before .before .before .args .entry in
-    let k = legal e (c .before .before .before .before .before .before .before .before .before .before .pre) in
-    (c .before .before .before .before .before .before .before .before .before .company-tag .ensures .1, span-tg-most (e .wide) (e .granule) (e .level) (k .span), omega arith, c .before .before .before .before .before .before .before .before .flag .ensures .1, c .before .before .before .before .before .before .before .flag2 .ensures .1, c .before .before .before .before .before .height-of .ensures .1, c .before .before .before .before .flag3 .ensures .1, c .before .before .before .flag4 .ensures .1, k .processor)
+    let k = has-places e (c .before .before .before .before .before .before .before .before .before .before .pre) in
+    (c .before .before .before .before .before .before .before .before .before .company-tag .ensures .1, k .1, omega arith, c .before .before .before .before .before .before .before .before .flag .ensures .1, c .before .before .before .before .before .before .before .flag2 .ensures .1, c .before .before .before .before .before .height-of .ensures .1, c .before .before .before .before .flag3 .ensures .1, c .before .before .before .flag4 .ensures .1, k .0)
 
 returns : tie.Need-returns
 unfolding tagOf
 returns c =
     let e = c .before .before .before .before .before .before .before .before .before .before .before .args .entry in
     let z = toZ-ofZ w8 (e .level) (sfits-of (c .before .before .before .before .before .before .before .struct-told .given .1 .1 .1 .1 .1 .1 .0 .1)) in
-    simp (c .in-places .ensures, c .before .before .before .before .before .before .before .before .before .before .company-tag .ensures .0, c .before .before .before .before .before .before .before .before .before .flag .ensures .0, c .before .before .before .before .before .before .before .before .flag2 .ensures .0, c .before .before .before .before .before .before .height-of .ensures .0 ∙ ap heightOf z, c .before .before .before .before .before .flag3 .ensures .0, c .before .before .before .before .flag4 .ensures .0)
+    (simp (c .in-places .ensures, c .before .before .before .before .before .before .before .before .before .before .company-tag .ensures .0, c .before .before .before .before .before .before .before .before .before .flag .ensures .0, c .before .before .before .before .before .before .before .before .flag2 .ensures .0, c .before .before .before .before .before .before .height-of .ensures .0 ∙ ap heightOf z, c .before .before .before .before .before .flag3 .ensures .0, c .before .before .before .before .flag4 .ensures .0), (search needs, search needs))
 
 pub tag-of-spec : {M : Type 1} → statement M
 tag-of-spec =

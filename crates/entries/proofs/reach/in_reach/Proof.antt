@@ -1,8 +1,8 @@
--- `entries::legal::in_reach` meets its contract.
+-- `entries::reach::in_reach` meets its contract.
 use borrow.Author.Needs.{needs}
 use Rattle.machine.specs.Entry.{inReach}
-use Rattle.entries.proofs.legal.in_reach.Statement.{statement}
-use Rattle.entries.proofs.legal.in_reach.Tie as tie
+use Rattle.entries.proofs.reach.in_reach.Statement.{statement}
+use Rattle.entries.proofs.reach.in_reach.Tie as tie
 
 has-asids-requires : tie.Need-has-asids-requires
 has-asids-requires c κs = search needs
