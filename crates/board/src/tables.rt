@@ -12,8 +12,10 @@ ghost use Rattle.received.specs.Numbers.{isRegime};
 ghost use Rattle.received.specs.States.{stateIn};
 ghost use Rattle.returned.specs.Known.{foundNumber, foundWords};
 ghost use Rattle.returned.specs.Words.{insertedWords, slotWords, executedWords};
+use insertion::refuse_entry;
 use received::EntryRecord;
 use received::StateRecord;
+use received::entry_fits;
 use received::entry_in;
 use received::is_regime;
 use received::state_in;
@@ -36,6 +38,11 @@ pub extern "C" fn chickadoor_insert(
 ) -> u32
     ensures { λ r. ⌜ Answers insertedNumber insertedWords (λ (a : Inserted). Inserts (entryIn entry) output (now (table .entry)) a (now (table .exit))) r (now (out .exit)) ⌝ }
 {
+    if !entry_fits(entry) {
+        let refused = refuse_entry(table);
+        *out = inserted_words(refused);
+        return inserted_number(refused);
+    }
     let entry = entry_in(entry);
     let inserted = calls::insert(table, entry, output);
     *out = inserted_words(inserted);

@@ -1,2 +1,3 @@
 -- Laws of what C's records stand for.
+pub mod Fits
 pub mod Unfit

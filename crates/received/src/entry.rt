@@ -1,6 +1,7 @@
-// An entry as C gives it: a value that a field cannot have makes a processor that is none, so that the entry breaks a rule.
+// An entry as C gives it: one with a value that a field cannot have is refused before it is taken in.
+ghost use mathlib.Core.Bool.{true};
 ghost use mathlib.Core.Path.{_≡_};
-ghost use Rattle.received.specs.Entries.{companyFits, companyIn, entryFits, processorIn, entryIn};
+ghost use Rattle.received.specs.Entries.{companyFits, companyIn, entryFits, entryIn};
 use crate::number::level_in;
 use machine::Company;
 use machine::Entry;
@@ -55,7 +56,7 @@ pub fn company_in(company: CompanyRecord) -> Company
     }
 }
 
-fn entry_fits(entry: EntryRecord) -> bool
+pub fn entry_fits(entry: EntryRecord) -> bool
     ensures { λ r. ⌜ r ≡ entryFits entry ⌝ }
 {
     let numbers = (entry.processor < 256) & (entry.asid < 65536) & (entry.granule < 256);
@@ -63,32 +64,30 @@ fn entry_fits(entry: EntryRecord) -> bool
     company_fits(entry.company) & numbers & flags
 }
 
-fn processor_in(entry: EntryRecord) -> u8
-    ensures { λ r. ⌜ r ≡ processorIn entry ⌝ }
-{
-    if entry_fits(entry) {
-        (entry.processor % 256) as u8
-    } else {
-        255
-    }
-}
-
+// A flag that fits is its lowest bit.
 pub fn entry_in(entry: EntryRecord) -> Entry
+    requires { ⌜ entryFits entry ≡ true ⌝ }
     ensures { λ r. ⌜ r ≡ entryIn entry ⌝ }
 {
-    let processor = processor_in(entry);
-    let company = company_in(entry.company);
+    let regime = regime_at(entry.company.regime);
+    let security = security_at(entry.company.security);
     let level = level_in(entry.level);
     Entry {
-        processor,
-        company,
+        processor: (entry.processor % 256) as u8,
+        company: Company {
+            regime,
+            security,
+            vmid: (entry.company.vmid % 65536) as u16,
+            stage2: entry.company.stage2 % 2 == 1,
+            ns: entry.company.ns % 2 == 1,
+        },
         asid: (entry.asid % 65536) as u16,
-        global: entry.global == 1,
-        wide: entry.wide == 1,
+        global: entry.global % 2 == 1,
+        wide: entry.wide % 2 == 1,
         granule: (entry.granule % 256) as u8,
         level,
-        leaf: entry.leaf == 1,
-        xs: entry.xs == 1,
+        leaf: entry.leaf % 2 == 1,
+        xs: entry.xs % 2 == 1,
         base: entry.base,
     }
 }

@@ -1,4 +1,5 @@
-// C's records of plain integers, and what the calls are given for them. A value that a field cannot have becomes one that breaks a rule of the calls.
+// C's records of plain integers, and what the calls are given for them. A value that a field cannot have is refused, or becomes one that breaks a rule of
+// the calls.
 mod entry;
 mod number;
 mod operand;
@@ -8,6 +9,7 @@ mod target;
 
 pub use entry::CompanyRecord;
 pub use entry::EntryRecord;
+pub use entry::entry_fits;
 pub use entry::entry_in;
 pub use number::is_regime;
 pub use operand::FieldsRecord;
