@@ -21,14 +21,17 @@ use machine::Target;
 use machine::Told;
 use words::OperationWord;
 
-// Most words are told by their fixed bits, before anything else is read.
+// Most words are told by their fixed bits, and most system instructions by CRm, before anything else is read.
 pub fn decode(word: u64) -> Decoded
     ensures { λ r. ⌜ Decodes word r ⌝ }
 {
-    if OperationWord::is_fixed(word) {
-        return OperationWord { bits: word }.read();
+    if !OperationWord::is_fixed(word) {
+        return Decoded::Unknown;
     }
-    Decoded::Unknown
+    if !OperationWord::has_crm(word) {
+        return Decoded::Unknown;
+    }
+    OperationWord { bits: word }.read()
 }
 
 pub fn build(op: Operation) -> Built

@@ -1,6 +1,8 @@
-// An operation as C gives it: a value that a field cannot have makes an Rt that no word has room for.
+// An operation as C gives it: one with a value that a field cannot have is refused before it is taken in.
+ghost use Prim.Native.Nat.{_<_};
+ghost use mathlib.Core.Bool.{true};
 ghost use mathlib.Core.Path.{_≡_};
-ghost use Rattle.received.specs.Operations.{nameAt, shareAt, operationFits, rtIn, operationIn};
+ghost use Rattle.received.specs.Operations.{nameAt, shareAt, operationFits, operationIn};
 use machine::Name;
 use machine::Operation;
 use machine::Share;
@@ -31,14 +33,18 @@ fn name_at(number: u64) -> Name
     }
 }
 
+// Below 3, each bit is a shareability of its own.
 fn share_at(number: u64) -> Share
+    requires { ⌜ number < 3 ⌝ }
     ensures { λ r. ⌜ r ≡ shareAt number ⌝ }
 {
-    match number {
-        0 => Share::Local,
-        1 => Share::Inner,
-        _ => Share::Outer,
+    if number % 2 == 1 {
+        return Share::Inner;
     }
+    if number / 2 % 2 == 1 {
+        return Share::Outer;
+    }
+    Share::Local
 }
 
 // Whether each field has a value that it can have.
@@ -48,27 +54,18 @@ pub fn operation_fits(op: OperationRecord) -> bool
     (op.name < 10) & (op.share < 3) & (op.nxs < 2) & (op.tlbip < 2) & (op.rt < 256)
 }
 
-fn rt_in(op: OperationRecord) -> u8
-    ensures { λ r. ⌜ r ≡ rtIn op ⌝ }
-{
-    if operation_fits(op) {
-        (op.rt % 256) as u8
-    } else {
-        255
-    }
-}
-
+// A flag that fits is its lowest bit.
 pub fn operation_in(op: OperationRecord) -> Operation
+    requires { ⌜ operationFits op ≡ true ⌝ }
     ensures { λ r. ⌜ r ≡ operationIn op ⌝ }
 {
     let name = name_at(op.name);
     let share = share_at(op.share);
-    let rt = rt_in(op);
     Operation {
         name,
         share,
-        nxs: op.nxs == 1,
-        tlbip: op.tlbip == 1,
-        rt,
+        nxs: op.nxs % 2 == 1,
+        tlbip: op.tlbip % 2 == 1,
+        rt: (op.rt % 256) as u8,
     }
 }

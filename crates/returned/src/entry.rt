@@ -10,16 +10,13 @@ use tags::flag;
 use tags::regime_number;
 use tags::security_number;
 
-// A level as a signed word: -1 is the height 4.
+// A level as a signed word: 3 less its height, and -1, whose height is 4, wraps.
 fn level_word(level: i8) -> u64
     ensures { λ r. ⌜ r ≡ levelWord level ⌝ }
 {
     if is_level(level) {
         let height = height_of(level);
-        if 4 <= height {
-            return 0xFFFFFFFFFFFFFFFF;
-        }
-        return 3 - height;
+        return std::num::wrapping_sub_u64(3, height);
     }
     0
 }

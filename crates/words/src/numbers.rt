@@ -1,7 +1,7 @@
-// The family of a name, and the numbers of a name and a shareability: the row rule the other way round.
+// The family of a name, and the bits of a name and of a shareability: the row rule the other way round.
 ghost use mathlib.Core.Path.{_≡_};
 ghost use mathlib.Core.Bool.{cond};
-ghost use Prim.Native.Nat.{_+_, _≤_};
+ghost use Prim.Native.Nat.{ℕ, _+_, _*_, _≤_};
 ghost use Rattle.machine.specs.Word.{familyOf, op1Of, crmOf, op2Of, shareCrm, stage2Crm, stage2Op2};
 use machine::Family;
 use machine::Name;
@@ -24,39 +24,34 @@ pub fn family_of(name: Name) -> Family
     }
 }
 
+// op1 and the local op2 of a name, in their places in a word: constants in place make two tables, and no shifts.
 // An arm that is a constant is a row of a table, and one that is a call is a jump.
-pub fn op1_of(name: Name) -> u8
-    ensures { λ r. ⌜ r ≡ op1Of (familyOf name) ⌝ }
+pub fn name_bits(name: Name) -> u64
+    ensures { λ r. ⌜ r ≡ op1Of (familyOf name) * 65536 + op2Of name Share.Local * 32 ⌝ }
+    ensures { λ r. ⌜ r ≤ 0x600A0 ⌝ }
 {
     match name {
-        Name::RVAE1 => 0,
-        Name::RVAAE1 => 0,
-        Name::RVALE1 => 0,
-        Name::RVAALE1 => 0,
-        Name::RVAE2 => 4,
-        Name::RVALE2 => 4,
-        Name::RVAE3 => 6,
-        Name::RVALE3 => 6,
-        Name::RIPAS2E1 => 4,
-        Name::RIPAS2LE1 => 4,
+        Name::RVAE1 => 0x20,
+        Name::RVAAE1 => 0x60,
+        Name::RVALE1 => 0xA0,
+        Name::RVAALE1 => 0xE0,
+        Name::RVAE2 => 0x40020,
+        Name::RVALE2 => 0x400A0,
+        Name::RVAE3 => 0x60020,
+        Name::RVALE3 => 0x600A0,
+        Name::RIPAS2E1 => 0x40040,
+        Name::RIPAS2LE1 => 0x400C0,
     }
 }
 
-pub fn crm_of(name: Name, share: Share) -> u8
-    ensures { λ r. ⌜ r ≡ crmOf (familyOf name) share ⌝ }
+// CRm in its place, and what op2 has more than the local one.
+pub fn share_bits(name: Name, share: Share) -> u64
+    ensures { λ r. ⌜ r + op2Of name Share.Local * 32 ≡ crmOf (familyOf name) share * 256 + op2Of name share * 32 ⌝ }
+    ensures { λ r. ⌜ r ≤ 0x600 ⌝ }
 {
-    let shared = share_crm(share);
-    let stage2 = stage2_crm(share);
+    let shared = shared_bits(share);
+    let stage2 = stage2_bits(share);
     if is_stage2(name) { stage2 } else { shared }
-}
-
-// A stage 2 name has one more for OS. A second table by name, to choose from, would make both of them jumps.
-pub fn op2_of(name: Name, share: Share) -> u8
-    ensures { λ r. ⌜ r ≡ op2Of name share ⌝ }
-{
-    let op2 = local_op2(name);
-    let stage2 = stage2_op2(share, op2, op2 + 1);
-    if is_stage2(name) { stage2 } else { op2 }
 }
 
 // Stage 2 has a CRm of its own, and another op2 for OS.
@@ -78,50 +73,25 @@ fn is_stage2(name: Name) -> bool
     }
 }
 
-fn local_op2(name: Name) -> u8
-    ensures { λ r. ⌜ r ≡ op2Of name Share.Local ⌝ }
-    ensures { λ r. ⌜ r ≤ 7 ⌝ }
+fn shared_bits(share: Share) -> u64
+    ensures { λ r. ⌜ r ≡ shareCrm share * 256 ⌝ }
+    ensures { λ r. ⌜ r ≤ 0x600 ⌝ }
 {
-    match name {
-        Name::RVAE1 => 1,
-        Name::RVAAE1 => 3,
-        Name::RVALE1 => 5,
-        Name::RVAALE1 => 7,
-        Name::RVAE2 => 1,
-        Name::RVALE2 => 5,
-        Name::RVAE3 => 1,
-        Name::RVALE3 => 5,
-        Name::RIPAS2E1 => 2,
-        Name::RIPAS2LE1 => 6,
+    match share {
+        Share::Local => 0x600,
+        Share::Inner => 0x200,
+        Share::Outer => 0x500,
     }
 }
 
-fn share_crm(share: Share) -> u8
-    ensures { λ r. ⌜ r ≡ shareCrm share ⌝ }
+// A stage 2 name has one more op2 for OS.
+fn stage2_bits(share: Share) -> u64
+    ensures { λ r. ⌜ ((op2 : ℕ) → r + op2 * 32 ≡ stage2Crm share * 256 + stage2Op2 share op2 (op2 + 1) * 32) ⌝ }
+    ensures { λ r. ⌜ r ≤ 0x600 ⌝ }
 {
     match share {
-        Share::Local => 6,
-        Share::Inner => 2,
-        Share::Outer => 5,
-    }
-}
-
-fn stage2_crm(share: Share) -> u8
-    ensures { λ r. ⌜ r ≡ stage2Crm share ⌝ }
-{
-    match share {
-        Share::Local => 4,
+        Share::Local => 0x400,
         Share::Inner => 0,
-        Share::Outer => 4,
-    }
-}
-
-fn stage2_op2(share: Share, op2: u8, os: u8) -> u8
-    ensures { λ r. ⌜ r ≡ stage2Op2 share op2 os ⌝ }
-{
-    match share {
-        Share::Local => op2,
-        Share::Inner => op2,
-        Share::Outer => os,
+        Share::Outer => 0x420,
     }
 }

@@ -1,11 +1,11 @@
-// The operation word type: SYS and SYSP are its constants, `is_fixed`, `read` and `build` its functions.
+// The operation word type: SYS and SYSP are its constants, `is_fixed`, `has_crm`, `read` and `build` its functions.
 ghost use mathlib.Core.Path.{_≡_};
 ghost use mathlib.Core.Bool.{cond};
 ghost use Prim.Native.Nat.{_≤_};
-ghost use Rattle.machine.specs.Word.{isFixed, readOf, builtOf};
-use crate::numbers::crm_of;
-use crate::numbers::op1_of;
-use crate::numbers::op2_of;
+ghost use Rattle.machine.specs.Word.{crmIn, isFixed, readOf, builtOf};
+ghost use Rattle.words.specs.Crm.{hasCrm};
+use crate::numbers::name_bits;
+use crate::numbers::share_bits;
 use crate::row_of;
 use machine::Built;
 use machine::Decoded;
@@ -28,6 +28,20 @@ impl OperationWord {
         let fixed = word / 524288 * 524288;
         let crn = word / 4096 % 16;
         ((fixed == OperationWord::SYS) | (fixed == OperationWord::SYSP)) & ((crn == 8) | (crn == 9))
+    }
+
+    // Whether CRm is one that some operation has: few of the system instructions next to them do.
+    pub fn has_crm(word: u64) -> bool
+        ensures { λ r. ⌜ r ≡ hasCrm (crmIn word) ⌝ }
+    {
+        match word / 256 % 16 {
+            0 => true,
+            2 => true,
+            4 => true,
+            5 => true,
+            6 => true,
+            _ => false,
+        }
     }
 
     // Any number gets an answer: 2^32 or more has other fixed bits.
@@ -65,12 +79,11 @@ impl OperationWord {
         if op.rt < 32 {
             let name = op.name;
             let share = op.share;
-            let op1 = op1_of(name) as u64;
+            let named = name_bits(name);
             let crn = crn_of(op.nxs) as u64;
-            let crm = crm_of(name, share) as u64;
-            let op2 = op2_of(name, share) as u64;
+            let shared = share_bits(name, share);
             let rt = op.rt as u64;
-            Built::Word(fixed_of(op.tlbip) + op1 * 65536 + crn * 4096 + crm * 256 + op2 * 32 + rt)
+            Built::Word(fixed_of(op.tlbip) + named + crn * 4096 + shared + rt)
         } else {
             Built::Unfit
         }

@@ -1,7 +1,7 @@
 -- `board::words::chickadoor_build` meets its contract.
 use mathlib.Core.Path.{refl, sym, _∙_}
 use borrow.Author.Needs.{needs}
-use borrow.Author.Tests.{not-true}
+use borrow.Author.Tests.{not-true, not-false}
 use Rattle.machine.specs.declared.operation.Built.the-variants.{Unfit}
 use Rattle.received.proofs.Unfit.{operation-unfit}
 use Rattle.board.proofs.words.chickadoor_build.Statement.{statement}
@@ -17,7 +17,9 @@ returns c =
     record { answer = Unfit; kept = sym unfit; numbered = refl; told = refl }
 
 operation-in-requires : tie.Need-operation-in-requires
-operation-in-requires c κs = search needs
+operation-in-requires c κs =
+    let fits = c .before .operation-fits in
+    sym (fits .ensures) ∙ not-false (fits .result) (c .if1 .left)
 
 build-requires : tie.Need-build-requires
 build-requires c κs = search needs

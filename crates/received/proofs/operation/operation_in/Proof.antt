@@ -1,6 +1,7 @@
 -- `received::operation::operation_in` meets its contract.
-use Rattle.received.specs.Operations.{operationIn}
 use borrow.Author.Needs.{needs}
+use Rattle.received.specs.Operations.{operationIn}
+use Rattle.received.proofs.Fits.{operation-fit}
 use Rattle.received.proofs.operation.operation_in.Statement.{statement}
 use Rattle.received.proofs.operation.operation_in.Tie as tie
 
@@ -8,14 +9,18 @@ name-at-requires : tie.Need-name-at-requires
 name-at-requires c κs = search needs
 
 share-at-requires : tie.Need-share-at-requires
-share-at-requires c κs = search needs
+share-at-requires c κs = operation-fit (c .before .args .op) (c .before .pre) .share
 
-rt-in-requires : tie.Need-rt-in-requires
-rt-in-requires c κs = search needs
+cast-t9 : tie.Need-cast-t9
+cast-t9 c = search needs
 
 returns : tie.Need-returns
 unfolding operationIn
-returns c = simp (c .before .before .rt-in .ensures, c .before .before .before .share-at .ensures, c .before .before .before .before .name-at .ensures)
+returns c =
+    let op = c .before .before .before .before .before .args .op in
+    let pre = c .before .before .before .before .before .pre in
+    let fit = operation-fit op pre in
+    simp (c .before .before .before .share-at .ensures, c .before .before .before .before .name-at .ensures, fit .nxs, fit .tlbip, pre)
 
 pub operation-in-spec : {M : Type 1} → statement M
-operation-in-spec = tie.close (tie.spec name-at-requires share-at-requires rt-in-requires returns)
+operation-in-spec = tie.close (tie.spec name-at-requires share-at-requires cast-t9 returns)
