@@ -5,7 +5,6 @@ use mathlib.Core.Path.{_≡_, refl, ap, _∙_}
 use lib.Dec.{eqb}
 use Rattle.laws.proofs.Truth.{or-0, or-1}
 use Rattle.machine.specs.Word.{op1In, crmIn, op2In, crnIn, rtIn, ofRow, isSysp, rowOf, isFixed, readOf}
-use Rattle.machine.specs.declared.operation.Decoded.{Decoded}
 use Rattle.machine.specs.declared.operation.Decoded.the-variants.{Unknown}
 use Rattle.machine.specs.declared.operation.Row.{Row}
 use Rattle.machine.specs.declared.operation.Row.the-variants.{Unnamed}

@@ -1,5 +1,4 @@
 -- `text::put_small` meets its contract.
-use Prim.Native.Nat.{_^_, _<_}
 use mathlib.Core.Path.{ap}
 use native.Mathlib.Omega.{arith}
 use lib.ListN.{length, length-append}

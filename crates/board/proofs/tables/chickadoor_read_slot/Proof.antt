@@ -1,7 +1,6 @@
 -- `board::tables::chickadoor_read_slot` meets its contract.
-use Prim.Native.Nat.{ℕ}
-use mathlib.Core.List.{List, [], _∷_}
-use mathlib.Core.Path.{_≡_, refl, sym, _∙_}
+use mathlib.Core.List.{[], _∷_}
+use mathlib.Core.Path.{_≡_, refl, _∙_}
 use borrow.Author.Needs.{needs}
 use Rattle.machine.specs.Answer.{slotNumber}
 use Rattle.machine.specs.Span.{isLevel, heightOf}

@@ -1,5 +1,4 @@
 -- `entries::company::is_el3` meets its contract.
-use mathlib.Core.Path.{refl}
 use borrow.Author.Needs.{needs}
 use Rattle.machine.specs.declared.scope.Security.{Security}
 use Rattle.entries.proofs.company.is_el3.Statement.{statement}

@@ -1,5 +1,4 @@
 -- `operands::write::fields_fit` meets its contract.
-use Prim.Native.Nat.{ℕ, _≤_, _<_}
 use mathlib.Core.Bool.{Bool, true, false, not, _&&_}
 use mathlib.Core.Path.{_≡_, sym, ap, _∙_}
 use lib.Dec.{eqb, ltb}

@@ -1,6 +1,6 @@
 -- `operands::write::write_tlbip` meets its contract.
 use Prim.Native.Nat.{ℕ, _-_, _/_, _%_, _^_}
-use mathlib.Core.Bool.{Bool, true, false}
+use mathlib.Core.Bool.{Bool, true}
 use mathlib.Core.Path.{_≡_, sym, _∙_}
 use lib.Dec.{eqb, lit<}
 use borrow.Author.Needs.{needs}

@@ -1,6 +1,5 @@
 -- `operands::write::xt_of` meets its contract.
 use mathlib.Core.Path.{sym}
-use borrow.Author.Needs.{needs}
 use Rattle.machine.proofs.Fields.{writable-within, writable-top}
 use Rattle.machine.specs.Operand.{xtOf}
 use Rattle.operands.proofs.write.xt_of.Statement.{statement}

@@ -1,6 +1,6 @@
 -- `scopes::reach::reached_by` meets its contract.
 use Prim.Native.Nat.{ℕ, _%_, _^_}
-use mathlib.Core.Path.{_≡_, sym, ap, _∙_}
+use mathlib.Core.Path.{sym, ap, _∙_}
 use borrow.Author.Needs.{needs}
 use Rattle.laws.proofs.Bits.{mask-under}
 use Rattle.machine.specs.Access.{reachesBy, reaches, reachedOf}
