@@ -6,50 +6,70 @@ mod cases;
 mod inputs;
 mod plain;
 mod records;
+mod rounds;
 mod shim;
+mod sides;
 mod stack;
 mod time;
 
 use calls::{LIBRARY, PLAIN};
 use cases::Case;
+use sides::Times;
+use std::process::ExitCode;
 
 /// The most stack that a call may use, in bytes.
 const MOST_STACK: usize = 16 * 1024;
 
-fn main() {
-    let wanted = std::env::args().nth(1).unwrap_or_default();
-    agree::check();
-    let mut cases = cases::all();
-    cases.retain(|case| case.call().contains(&wanted));
-    cases.iter_mut().for_each(|case| cases::check(case.as_mut()));
-    stack::on_large_stack(print_stack);
-    print_times(&mut cases);
-}
-
-fn print_times(cases: &mut [Box<dyn Case>]) {
-    println!("| call | given | library ns | plain Rust ns | ratio | reading once ns | times reading |");
-    println!("|---|---|---:|---:|---:|---:|---:|");
-    for case in cases {
-        print_time(case.as_mut());
+fn main() -> ExitCode {
+    let mut arguments = std::env::args().skip(1);
+    let first = arguments.next().unwrap_or_default();
+    if first == rounds::MEASURE {
+        rounds::measure(&mut wanted_cases(&arguments.next().unwrap_or_default()));
+        return ExitCode::SUCCESS;
+    }
+    match report(&first) {
+        Ok(()) => ExitCode::SUCCESS,
+        Err(what) => {
+            eprintln!("{}", what);
+            ExitCode::FAILURE
+        }
     }
 }
 
-fn print_time(case: &mut dyn Case) {
-    let restores = case.restore(1);
-    let reads = !case.lent().is_empty();
-    let [library, plain, restore, read] = time::fastest([true, true, restores, reads], |which, times| match which {
-        0 => case.run(&LIBRARY, times),
-        1 => case.run(&PLAIN, times),
-        2 => {
-            case.restore(times);
-        }
-        _ => cases::read(case.lent(), times),
-    });
+/// The cases of the calls with this in their name.
+fn wanted_cases(wanted: &str) -> Vec<Box<dyn Case>> {
+    let mut cases = cases::all();
+    cases.retain(|case| case.call().contains(wanted));
+    cases
+}
+
+/// Checks, measures and prints: whatever is to be found out but once is, before anything is timed.
+fn report(wanted: &str) -> Result<(), String> {
+    agree::check();
+    let mut cases = wanted_cases(wanted);
+    cases.iter_mut().for_each(|case| cases::check(case.as_mut()));
+    stack::on_large_stack(print_stack);
+    let times = rounds::smallest(wanted, &mut cases)?;
+    print_times(&cases, &times);
+    Ok(())
+}
+
+fn print_times(cases: &[Box<dyn Case>], times: &[Times]) {
+    println!("| call | given | library ns | plain Rust ns | ratio | reading once ns | times reading |");
+    println!("|---|---|---:|---:|---:|---:|---:|");
+    for (case, times) in cases.iter().zip(times) {
+        print_time(case.as_ref(), times);
+    }
+}
+
+fn print_time(case: &dyn Case, times: &Times) {
+    let [library, plain, restore, read] = *times;
     // Putting the table right is in both sides' time, and is measured by itself.
-    let restore = if restores { restore } else { 0.0 };
+    let restore = if restore.is_finite() { restore } else { 0.0 };
     let each = case.calls_each() as f64;
     let (library, plain) = ((library - restore) / each, (plain - restore) / each);
-    let (read, times) = if reads { (format!("{:.0}", read), format!("{:.1}", library / read)) } else { ("-".into(), "-".into()) };
+    let (read, times) =
+        if read.is_finite() { (format!("{:.0}", read), format!("{:.1}", library / read)) } else { ("-".into(), "-".into()) };
     println!(
         "| {} | {} | {} | {} | {:.2} | {} | {} |",
         case.call(),

@@ -1,9 +1,13 @@
-//! Timing: the fastest of many samples, each long enough for the clock, all sides in turn.
+//! Timing: the fastest of a few samples, each long enough for the clock, all sides in turn.
 
 use std::arch::asm;
 
-const SAMPLES: usize = 15;
-const SAMPLE_NANOSECONDS: u64 = 20_000_000;
+/// Few and short, as many processes take them.
+const SAMPLES: usize = 3;
+const SAMPLE_NANOSECONDS: u64 = 2_000_000;
+/// A long work is done so many times in a sample, however long that lasts: the branch predictors want some to learn it again after the
+/// works before it.
+const LEAST_TIMES: u64 = 100;
 
 #[repr(C)]
 struct Timespec {
@@ -44,7 +48,7 @@ pub fn fastest<const N: usize>(wanted: [bool; N], mut run: impl FnMut(usize, u64
 
 /// How many times last as long as a sample should.
 fn enough(mut run: impl FnMut(u64)) -> u64 {
-    let mut times = 1;
+    let mut times = LEAST_TIMES;
     loop {
         let taken = sample(&mut run, times);
         if taken >= SAMPLE_NANOSECONDS {
