@@ -4,6 +4,7 @@ mod agree;
 mod calls;
 mod cases;
 mod inputs;
+mod placement;
 mod plain;
 mod records;
 mod rounds;
@@ -15,6 +16,7 @@ mod time;
 use calls::{LIBRARY, PLAIN};
 use cases::Case;
 use sides::Times;
+use std::path::PathBuf;
 use std::process::ExitCode;
 
 /// The most stack that a call may use, in bytes.
@@ -27,7 +29,7 @@ fn main() -> ExitCode {
         rounds::measure(&mut wanted_cases(&arguments.next().unwrap_or_default()));
         return ExitCode::SUCCESS;
     }
-    match report(&first) {
+    match report(&first, arguments.map(PathBuf::from).collect()) {
         Ok(()) => ExitCode::SUCCESS,
         Err(what) => {
             eprintln!("{}", what);
@@ -44,12 +46,12 @@ fn wanted_cases(wanted: &str) -> Vec<Box<dyn Case>> {
 }
 
 /// Checks, measures and prints: whatever is to be found out but once is, before anything is timed.
-fn report(wanted: &str) -> Result<(), String> {
+fn report(wanted: &str, others: Vec<PathBuf>) -> Result<(), String> {
     agree::check();
     let mut cases = wanted_cases(wanted);
     cases.iter_mut().for_each(|case| cases::check(case.as_mut()));
     stack::on_large_stack(print_stack);
-    let times = rounds::smallest(wanted, &mut cases)?;
+    let times = rounds::smallest(wanted, others, &mut cases)?;
     print_times(&cases, &times);
     Ok(())
 }

@@ -19,7 +19,7 @@ pub fn sides(case: &mut dyn Case) -> [bool; SIDES] {
 }
 
 pub fn measure(case: &mut dyn Case) -> Times {
-    time::fastest(sides(case), |side, times| match side {
+    time::fastest(sides(case), case.samples(), |side, times| match side {
         0 => case.run(&LIBRARY, times),
         1 => case.run(&PLAIN, times),
         2 => {

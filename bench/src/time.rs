@@ -1,12 +1,10 @@
-//! Timing: the fastest of a few samples, each long enough for the clock, all sides in turn.
+//! Timing: the fastest of some samples, each long enough for the clock, all sides in turn.
 
 use std::arch::asm;
 
-/// Few and short, as many processes take them.
-const SAMPLES: usize = 3;
+/// Short, as many processes take samples; but in samples much shorter the clock is out by some per cent.
 const SAMPLE_NANOSECONDS: u64 = 2_000_000;
-/// A long work is done so many times in a sample, however long that lasts: the branch predictors want some to learn it again after the
-/// works before it.
+/// A work is done so many times in a sample, however long that lasts: in the first ones the branch predictors learn it again.
 const LEAST_TIMES: u64 = 100;
 
 #[repr(C)]
@@ -30,14 +28,14 @@ fn now() -> u64 {
 }
 
 /// Nanoseconds of one time of each of N works that is wanted: `run(k, times)` does work k so many times. Every work has a sample in each turn.
-pub fn fastest<const N: usize>(wanted: [bool; N], mut run: impl FnMut(usize, u64)) -> [f64; N] {
+pub fn fastest<const N: usize>(wanted: [bool; N], samples: usize, mut run: impl FnMut(usize, u64)) -> [f64; N] {
     let works: Vec<usize> = (0..N).filter(|k| wanted[*k]).collect();
     let mut times = [0; N];
     let mut best = [f64::INFINITY; N];
     for &k in &works {
         times[k] = enough(|times| run(k, times));
     }
-    for _ in 0..SAMPLES {
+    for _ in 0..samples {
         for &k in &works {
             let taken = sample(|times| run(k, times), times[k]);
             best[k] = best[k].min(taken as f64 / times[k] as f64);

@@ -34,6 +34,11 @@ pub trait Case {
     fn calls_each(&self) -> u64 {
         1
     }
+
+    /// How many samples of each side a measuring process takes: few, as there are many processes.
+    fn samples(&self) -> usize {
+        3
+    }
 }
 
 /// The words of a record that has no other.

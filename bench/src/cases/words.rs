@@ -9,6 +9,10 @@ use crate::time::keep;
 /// How many different words are taken in turn.
 const WORDS: usize = 120;
 
+/// The samples where different words are taken: each goes its own way through a call, and the branch predictors find the best account of
+/// that by chance, in few samples.
+const SAMPLES: usize = 15;
+
 /// Every name with every shareability, NXS and kind, and some register each.
 fn operations() -> Vec<Operation> {
     let kinds = (0..WORDS as u64).map(|k| (k / 12, k / 4 % 3, k / 2 % 2, k % 2));
@@ -86,6 +90,10 @@ impl Case for Decode {
     fn calls_each(&self) -> u64 {
         WORDS as u64
     }
+
+    fn samples(&self) -> usize {
+        SAMPLES
+    }
 }
 
 struct Build {
@@ -123,6 +131,10 @@ impl Case for Build {
 
     fn calls_each(&self) -> u64 {
         WORDS as u64
+    }
+
+    fn samples(&self) -> usize {
+        SAMPLES
     }
 }
 
