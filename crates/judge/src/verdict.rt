@@ -16,7 +16,8 @@ use steps::work_in;
 use tables::is_list;
 use targets::is_target;
 use words::OperationWord;
-use works::resolve;
+use works::held_in;
+use works::resolve_held;
 
 pub fn judge(state: State, target: Target, list: &[u64]) -> Judged
     ensures { λ r. ⌜ Verdict state target (now (list .entry)) r ⌝ }
@@ -35,7 +36,7 @@ pub fn judge(state: State, target: Target, list: &[u64]) -> Judged
 }
 
 // What judge answers where shape, state and target are sound. The works stay where they are made: each function that is given them copies
-// all sixteen.
+// all sixteen. A step with the word of the step before it is in the same scope.
 fn by_steps(state: State, target: Target, list: &[u64]) -> Judged
     requires { ⌜ Sound state target (now list) ⌝ }
     ensures { λ r. ⌜ Verdict state target (now (list .entry)) r ⌝ }
@@ -45,10 +46,15 @@ fn by_steps(state: State, target: Target, list: &[u64]) -> Judged
     let blank = no_work();
     let mut works = [blank; 16];
     let mut checked = unchecked(n);
+    let mut word = 0;
+    let mut work = blank;
     for i in 0..n {
-        let read = OperationWord { bits: list[3 * i] }.read();
-        let resolved = resolve(state, read, list[3 * i + 1], list[3 * i + 2]);
-        let work = work_in(resolved);
+        let next = list[3 * i];
+        let read = OperationWord { bits: next }.read();
+        let held = held_in(next == word, work);
+        word = next;
+        let resolved = resolve_held(state, read, held, list[3 * i + 1], list[3 * i + 2]);
+        work = work_in(resolved);
         works[i] = work;
         checked = with_step(checked, company, n, i, work);
     }

@@ -1,6 +1,10 @@
 // The work of an operation: what a word and its registers come to in a state, and which entries go.
 mod going;
+mod held;
 mod resolution;
 
 pub use going::goes;
+pub use held::Held;
+pub use held::held_in;
 pub use resolution::resolve;
+pub use resolution::resolve_held;

@@ -5,6 +5,9 @@ ghost use Rattle.machine.specs.Access.{accessOf};
 ghost use Rattle.machine.specs.Asked.{askedOf};
 ghost use Rattle.machine.specs.Execute.{resolvedRange, resolvedAccess, resolvedWord};
 ghost use Rattle.machine.specs.Goes.{workOf};
+ghost use Rattle.works.specs.Held.{Holds, HoldsOf};
+use crate::held::Held;
+use crate::held::nothing_held;
 use access::decide;
 use machine::Access;
 use machine::Company;
@@ -23,21 +26,42 @@ use ranges::asked;
 pub fn resolve(state: State, read: Decoded, xt: u64, xt2: u64) -> Resolved
     ensures { λ r. ⌜ r ≡ resolvedWord state xt xt2 read ⌝ }
 {
+    let held = nothing_held();
+    resolve_held(state, read, held, xt, xt2)
+}
+
+// The same with what is known of the word: one function decides for both, so that the access rules and the operand's are compiled into it.
+pub fn resolve_held(state: State, read: Decoded, held: Held, xt: u64, xt2: u64) -> Resolved
+    requires { ⌜ Holds state read held ⌝ }
+    ensures { λ r. ⌜ r ≡ resolvedWord state xt xt2 read ⌝ }
+{
     match read {
-        Decoded::Known(op) => by_access(state, op, xt, xt2),
+        Decoded::Known(op) => by_access(state, op, held, xt, xt2),
         Decoded::Unknown => Resolved::Unknown,
     }
 }
 
-fn by_access(state: State, op: Operation, xt: u64, xt2: u64) -> Resolved
+fn by_access(state: State, op: Operation, held: Held, xt: u64, xt2: u64) -> Resolved
+    requires { ⌜ HoldsOf state op held ⌝ }
     ensures { λ r. ⌜ r ≡ resolvedAccess state op xt xt2 (accessOf state op) ⌝ }
 {
-    match decide(state, op) {
+    match access_of(state, op, held) {
         Access::Undefined => Resolved::Undefined,
         Access::Trapped(number) => Resolved::Trapped(number),
         Access::NoEffect => Resolved::NoEffect,
         Access::Runs(scope) => by_range(state, op, scope, xt, xt2),
     }
+}
+
+fn access_of(state: State, op: Operation, held: Held) -> Access
+    requires { ⌜ HoldsOf state op held ⌝ }
+    ensures { λ r. ⌜ r ≡ accessOf state op ⌝ }
+{
+    if held.known {
+        let scope = held.scope;
+        return Access::Runs(scope);
+    }
+    decide(state, op)
 }
 
 fn by_range(state: State, op: Operation, scope: Scope, xt: u64, xt2: u64) -> Resolved

@@ -14,16 +14,23 @@ use Rattle.judge.proofs.Targets.{Fits}
 use Rattle.judge.proofs.verdict.by_steps.Statement.{statement}
 use Rattle.judge.proofs.verdict.by_steps.Tie as tie
 use Rattle.judge.specs.Search.{Searched, Searches, onProcessors}
+use Rattle.steps.proofs.Holding.{ComesOf, comes-none, comes-holds}
 use Rattle.steps.proofs.Loops.{stepWork, Each, each-more, each-end, Checking, checking-start, checking-more, checking-end}
 use Rattle.steps.specs.Steps.{workIn}
 use Rattle.works.proofs.Reading.{read-resolved}
 
 abbrev Inv-loop : tie.InvT-loop
-Inv-loop state target list n company works₀ checked₀ i₀ works checked i =
-    (i ≤ n) × (n ≡ length list / 3) × (n ≤ 16) × (length works ≡ 16) × Each state list works i × Checking company (stepWork state list) n i checked
+Inv-loop state target list n company works₀ checked₀ word₀ work₀ i₀ works checked word work i =
+    (i ≤ n)
+    × (n ≡ length list / 3)
+    × (n ≤ 16)
+    × (length works ≡ 16)
+    × Each state list works i
+    × Checking company (stepWork state list) n i checked
+    × ComesOf state word work
 
 abbrev μ-loop : tie.MeasureT-loop
-μ-loop state target list n company works₀ checked₀ i₀ works checked i = n - i
+μ-loop state target list n company works₀ checked₀ word₀ work₀ i₀ works checked word work i = n - i
 
 no-work-requires : tie.Need-no-work-requires Inv-loop μ-loop
 no-work-requires c κs = search needs
@@ -44,46 +51,53 @@ loop-holds c =
       refl,
       λ (x : ℕ) (l : x < 0). absurd (let z : ⊥ = omega arith in z),
       subst (Checking company w (slots steps) 0) (sym (c .unchecked .ensures)) (checking-start company w (slots steps)),
+      subst (ComesOf (a .state) 0) (sym (c .before .no-work .ensures)) (comes-none (a .state)),
     )
 
-mul-resolve : tie.Need-mul-resolve Inv-loop μ-loop
-mul-resolve c = search needs
+mul-next : tie.Need-mul-next Inv-loop μ-loop
+mul-next c = search needs
 
-mul-resolve-2 : tie.Need-mul-resolve-2 Inv-loop μ-loop
-mul-resolve-2 c = search needs
+mul-next-2 : tie.Need-mul-next-2 Inv-loop μ-loop
+mul-next-2 c = search needs
 
-shared-slice-read-resolve : tie.Need-shared-slice-read-resolve Inv-loop μ-loop
-shared-slice-read-resolve c = search needs
+shared-slice-read-next : tie.Need-shared-slice-read-next Inv-loop μ-loop
+shared-slice-read-next c = search needs
 
 read-requires : tie.Need-read-requires Inv-loop μ-loop
 read-requires c κs = search needs
 
-mul-resolve-3 : tie.Need-mul-resolve-3 Inv-loop μ-loop
-mul-resolve-3 c = search needs
+held-in-requires : tie.Need-held-in-requires Inv-loop μ-loop
+held-in-requires c κs = search needs
 
-add-resolve : tie.Need-add-resolve Inv-loop μ-loop
-add-resolve c = search needs
+mul-resolve-held : tie.Need-mul-resolve-held Inv-loop μ-loop
+mul-resolve-held c = search needs
 
-mul-resolve-4 : tie.Need-mul-resolve-4 Inv-loop μ-loop
-mul-resolve-4 c = search needs
+add-resolve-held : tie.Need-add-resolve-held Inv-loop μ-loop
+add-resolve-held c = search needs
 
-shared-slice-read-resolve-2 : tie.Need-shared-slice-read-resolve-2 Inv-loop μ-loop
-shared-slice-read-resolve-2 c = search needs
+mul-resolve-held-2 : tie.Need-mul-resolve-held-2 Inv-loop μ-loop
+mul-resolve-held-2 c = search needs
 
-mul-resolve-5 : tie.Need-mul-resolve-5 Inv-loop μ-loop
-mul-resolve-5 c = search needs
+shared-slice-read-resolve-held : tie.Need-shared-slice-read-resolve-held Inv-loop μ-loop
+shared-slice-read-resolve-held c = search needs
 
-add-resolve-2 : tie.Need-add-resolve-2 Inv-loop μ-loop
-add-resolve-2 c = search needs
+mul-resolve-held-3 : tie.Need-mul-resolve-held-3 Inv-loop μ-loop
+mul-resolve-held-3 c = search needs
 
-mul-resolve-6 : tie.Need-mul-resolve-6 Inv-loop μ-loop
-mul-resolve-6 c = search needs
+add-resolve-held-2 : tie.Need-add-resolve-held-2 Inv-loop μ-loop
+add-resolve-held-2 c = search needs
 
-shared-slice-read-resolve-3 : tie.Need-shared-slice-read-resolve-3 Inv-loop μ-loop
-shared-slice-read-resolve-3 c = search needs
+mul-resolve-held-4 : tie.Need-mul-resolve-held-4 Inv-loop μ-loop
+mul-resolve-held-4 c = search needs
 
-resolve-requires : tie.Need-resolve-requires Inv-loop μ-loop
-resolve-requires c κs = search needs
+shared-slice-read-resolve-held-2 : tie.Need-shared-slice-read-resolve-held-2 Inv-loop μ-loop
+shared-slice-read-resolve-held-2 c = search needs
+
+resolve-held-requires : tie.Need-resolve-held-requires Inv-loop μ-loop
+resolve-held-requires c κs =
+    let a = c .before .before .before .before .before .before .before .before .before .before .before .args in
+    let l = c .before .before .before .before .before .before .loop in
+    comes-holds (a .state) (l .word) (getD (a .list .now) (3 * l .i) 0) (l .work) _ _ (l .inv .6) (c .before .before .before .read .ensures) (c .before .before .held-in .ensures)
 
 work-in-requires : tie.Need-work-in-requires Inv-loop μ-loop
 work-in-requires c κs = search needs
@@ -105,20 +119,21 @@ loop-less c = search needs
 
 loop-again : tie.Need-loop-again Inv-loop μ-loop
 loop-again c =
-    let a = c .before .before .before .before .before .before .before .before .before .before .before .before .before .args in
-    let l = c .before .before .before .before .before .before .before .before .loop in
+    let a = c .before .before .before .before .before .before .before .before .before .before .before .before .before .before .args in
+    let l = c .before .before .before .before .before .before .before .before .before .loop in
     let steps = a .list .now in
     let n = slots steps in
     let company = a .target .company in
     let w = stepWork (a .state) steps in
-    let resolved = read-resolved (a .state) (getD steps (3 * l .i) 0) (getD steps (3 * l .i + 1) 0) (getD steps (3 * l .i + 2) 0) _ _ (c .before .before .before .before .before .read .ensures) (c .before .before .resolve .ensures) in
+    let resolved = read-resolved (a .state) (getD steps (3 * l .i) 0) (getD steps (3 * l .i + 1) 0) (getD steps (3 * l .i + 2) 0) _ _ (c .before .before .before .before .before .before .read .ensures) (c .before .before .resolve-held .ensures) in
     let work = c .before .work-in .ensures ∙ ap workIn resolved in (
       omega arith,
       refl,
       omega arith,
       simp length-set (omega arith),
       each-more (a .state) steps (l .works) (l .i) (c .before .work-in .result) (omega arith) work (l .inv .4),
-      subst (Checking company w n (l .i + 1)) (sym (c .with-step .ensures)) (checking-more company w n (l .i) (c .before .work-in .result) (l .checked) (c .before .before .before .before .before .before .before .loop-test .taken) work (l .inv .5)),
+      subst (Checking company w n (l .i + 1)) (sym (c .with-step .ensures)) (checking-more company w n (l .i) (c .before .work-in .result) (l .checked) (c .before .before .before .before .before .before .before .before .loop-test .taken) work (l .inv .5)),
+      record { xt = getD steps (3 * l .i + 1) 0; xt2 = getD steps (3 * l .i + 2) 0; work = work },
     )
 
 returns : tie.Need-returns Inv-loop μ-loop
@@ -217,19 +232,20 @@ by-steps-spec =
     no-work-requires
     unchecked-requires
     loop-holds
-    mul-resolve
-    mul-resolve-2
-    shared-slice-read-resolve
+    mul-next
+    mul-next-2
+    shared-slice-read-next
     read-requires
-    mul-resolve-3
-    add-resolve
-    mul-resolve-4
-    shared-slice-read-resolve-2
-    mul-resolve-5
-    add-resolve-2
-    mul-resolve-6
-    shared-slice-read-resolve-3
-    resolve-requires
+    held-in-requires
+    mul-resolve-held
+    add-resolve-held
+    mul-resolve-held-2
+    shared-slice-read-resolve-held
+    mul-resolve-held-3
+    add-resolve-held-2
+    mul-resolve-held-4
+    shared-slice-read-resolve-held-2
+    resolve-held-requires
     work-in-requires
     mul-works
     array-set-from-works
