@@ -132,7 +132,6 @@ struct chickadoor_board {
  * outer domain. EL2 is enabled if it is present and either the security state is not Secure or features.sel2 and scr.eel2 are both 1. The security state is
  * Non-secure without EL3; else scr.ns, and with RME scr.nse and scr.ns, give it (0, 0 Secure; 0, 1 Non-secure; 1, 1 Realm). */
 struct chickadoor_state {
-    uint8_t el;  /* current exception level, 0 to 3 */
     struct chickadoor_present present;
     struct chickadoor_features features;
     struct chickadoor_scr scr;
@@ -140,8 +139,9 @@ struct chickadoor_state {
     struct chickadoor_hcrx hcrx;
     struct chickadoor_traps traps;
     struct chickadoor_ds ds;
-    struct chickadoor_board board;
+    uint8_t el;  /* current exception level, 0 to 3 */
     uint16_t vmid;  /* VTTBR_EL2.VMID; it counts as 0 while EL2 is disabled */
+    struct chickadoor_board board;
 };
 
 /* Whose an entry is. Rules: stage 2 is EL1&0's; EL3 is Root or Secure, other regimes never Root; a VMID only in EL1&0; ns only in Secure stage 2. */

@@ -87,7 +87,6 @@ pub struct Board {
 #[repr(C)]
 #[derive(Clone, Copy, Debug, Default)]
 pub struct State {
-    pub el: u8,
     pub present: Present,
     pub features: Features,
     pub scr: Scr,
@@ -95,8 +94,9 @@ pub struct State {
     pub hcrx: Hcrx,
     pub traps: Traps,
     pub ds: Ds,
-    pub board: Board,
+    pub el: u8,
     pub vmid: u16,
+    pub board: Board,
 }
 
 #[repr(C)]

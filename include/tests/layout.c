@@ -9,7 +9,6 @@
 
 static void state(void) {
     RECORD(state);
-    FIELD(state, el);
     FIELD(state, present.el2);
     FIELD(state, present.el3);
     FIELD(state, features.tlbirange);
@@ -50,11 +49,12 @@ static void state(void) {
     FIELD(state, ds.el2);
     FIELD(state, ds.el3);
     FIELD(state, ds.stage2);
+    FIELD(state, el);
+    FIELD(state, vmid);
     FIELD(state, board.own);
     FIELD(state, board.count);
     FIELD(state, board.inner);
     FIELD(state, board.outer);
-    FIELD(state, vmid);
 }
 
 static void entry(void) {

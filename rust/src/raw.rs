@@ -99,7 +99,6 @@ pub struct Board {
 #[repr(C)]
 #[derive(Clone, Copy, Debug, Default, PartialEq, Eq)]
 pub struct State {
-    pub el: u8,
     pub present: Present,
     pub features: Features,
     pub scr: Scr,
@@ -107,8 +106,9 @@ pub struct State {
     pub hcrx: Hcrx,
     pub traps: Traps,
     pub ds: Ds,
-    pub board: Board,
+    pub el: u8,
     pub vmid: u16,
+    pub board: Board,
 }
 
 /// Whose an entry is: regime 0 EL1&0, 1 EL2&0, 2 EL2, 3 EL3; security 0 Secure, 1 Non-secure, 2 Realm, 3 Root; `stage2` and `ns` are 0 or 1.

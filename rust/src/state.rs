@@ -158,7 +158,6 @@ impl From<&State> for raw::State {
         let State { el, present, features, scr, hcr, hcrx, traps, ds, vmid, board } = *state;
         let Board { own, count, inner, outer } = board;
         raw::State {
-            el,
             present: present.into(),
             features: features.into(),
             scr: scr.into(),
@@ -166,8 +165,9 @@ impl From<&State> for raw::State {
             hcrx: hcrx.into(),
             traps: traps.into(),
             ds: ds.into(),
-            board: raw::Board { own, count, inner, outer },
+            el,
             vmid,
+            board: raw::Board { own, count, inner, outer },
         }
     }
 }

@@ -25,7 +25,6 @@ macro_rules! layout {
 fn records_lie_as_in_the_header() {
     let text = layout! {
         "state" State {
-            el,
             present.el2, present.el3,
             features.tlbirange, features.tlbios, features.d128, features.xs, features.lpa2, features.rme, features.sel2, features.fgt, features.hcx,
             scr.ns, scr.nse, scr.eel2, scr.fgten, scr.hxen,
@@ -36,8 +35,8 @@ fn records_lie_as_in_the_header() {
             traps.rvale1.local, traps.rvale1.inner, traps.rvale1.outer,
             traps.rvaale1.local, traps.rvaale1.inner, traps.rvaale1.outer,
             ds.el1, ds.el2, ds.el3, ds.stage2,
-            board.own, board.count, board.inner, board.outer,
-            vmid
+            el, vmid,
+            board.own, board.count, board.inner, board.outer
         }
         "entry" Entry {
             processor,

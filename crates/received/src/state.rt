@@ -94,9 +94,10 @@ pub struct BoardRecord {
     pub outer: [u8; 8],
 }
 
+// The flags come first and the domains last: a caller copies the record sixteen bytes at a time, and what is loaded here at once then lies in one such
+// piece. A load across two of them would wait for both.
 #[repr(C)]
 pub struct StateRecord {
-    pub el: u8,
     pub present: PresentRecord,
     pub features: FeaturesRecord,
     pub scr: ScrRecord,
@@ -104,8 +105,9 @@ pub struct StateRecord {
     pub hcrx: HcrxRecord,
     pub traps: TrapsRecord,
     pub ds: DsRecord,
-    pub board: BoardRecord,
+    pub el: u8,
     pub vmid: u16,
+    pub board: BoardRecord,
 }
 
 fn present_fit(present: PresentRecord) -> bool
