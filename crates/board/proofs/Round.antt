@@ -94,6 +94,10 @@ level-there x = go (eqb x 0) refl (eqb x 1) refl (eqb x 2) refl (eqb x 3) refl (
 under : (x n : ℕ) → ltb x n ≡ true → x % n ≡ x
 under x n h = mod-eq-of-lt (ltb-true x n h)
 
+-- and one of fewer than a byte has
+byte : (x n : ℕ) → n ≤ 256 → ltb x n ≡ true → x % 256 ≡ x
+byte x n most h = let low : x < 256 = omega (arith, ltb-true x n h, most) in mod-eq-of-lt low
+
 -- the records of a company and an entry
 abbrev pub companyOf : Company → CompanyRecord
 companyOf c = record { regime = regimeNumber (c .regime); security = securityNumber (c .security); vmid = c .vmid; stage2 = flag (c .stage2); ns = flag (c .ns) }
@@ -154,9 +158,9 @@ pub entry-taken : (e : EntryRecord) → entryFits e ≡ true → isLevel (levelI
 unfolding entryIn entryFits
 entry-taken e h l =
     let c = companyFits (e .company) in
-    let p = ltb (e .processor) 256 in
+    let p = ltb (e .processor) 8 in
     let a = ltb (e .asid) 65536 in
-    let g = ltb (e .granule) 256 in
+    let g = ltb (e .granule) 4 in
     let b = isFlag (e .global) in
     let w = isFlag (e .wide) in
     let f = isFlag (e .leaf) in
@@ -169,8 +173,8 @@ entry-taken e h l =
     let pa = and-0 (p && a) g hn in
     let bwf = and-0 (b && w && f) x hf in
     let bw = and-0 (b && w) f bwf in
-    entry-record (e .base) (ap (λ (y : Bool). cond y (e .processor % 256) 255) h ∙ under (e .processor) 256 (and-0 p a pa)) (company-taken (e .company) (and-0 c numbers cn))
-    (under (e .asid) 65536 (and-1 p a pa)) (flag-taken (e .global) (and-0 b w bw)) (flag-taken (e .wide) (and-1 b w bw)) (under (e .granule) 256 (and-1 (p && a) g hn))
+    entry-record (e .base) (ap (λ (y : Bool). cond y (e .processor % 256) 255) h ∙ byte (e .processor) 8 (omega arith) (and-0 p a pa)) (company-taken (e .company) (and-0 c numbers cn))
+    (under (e .asid) 65536 (and-1 p a pa)) (flag-taken (e .global) (and-0 b w bw)) (flag-taken (e .wide) (and-1 b w bw)) (byte (e .granule) 4 (omega arith) (and-1 (p && a) g hn))
     (level-there (e .level) l) (flag-taken (e .leaf) (and-1 (b && w) f bwf)) (flag-taken (e .xs) (and-1 (b && w && f) x hf))
 
 -- what the library tells fits
@@ -184,8 +188,8 @@ company-fits c v =
 entry-fits : (e : Entry) → Sized e → e .processor ≤ 7 → e .granule ≤ 3 → entryFits (recordOf e) ≡ true
 unfolding entryFits
 entry-fits e z p g =
-    let n : e .processor < 256 = omega arith in
-    let m : e .granule < 256 = omega arith in
+    let n : e .processor < 8 = omega arith in
+    let m : e .granule < 4 = omega arith in
     simp (
       company-fits (e .company) (z .0),
       fits n,

@@ -31,7 +31,7 @@ pub entry-fit : (e : EntryRecord) → entryFits e ≡ true → EntryFit e
 unfolding entryFits
 entry-fit e h =
     let c = companyFits (e .company) in
-    let numbers = ltb (e .processor) 256 && ltb (e .asid) 65536 && ltb (e .granule) 256 in
+    let numbers = ltb (e .processor) 8 && ltb (e .asid) 65536 && ltb (e .granule) 4 in
     let g = isFlag (e .global) in
     let w = isFlag (e .wide) in
     let l = isFlag (e .leaf) in

@@ -22,14 +22,14 @@ companyIn c = record {
   ns = flagIn (c .ns);
 }
 
--- the same of an entry; its processor and its granule are bytes, and its level is judged by itself
+-- the same of an entry: "processor (0 to 7)", a granule as TG is given, of two bits; its level is judged by itself
 unfoldable pub entryFits : EntryRecord → Bool
 entryFits e =
     companyFits (e .company)
-    && (ltb (e .processor) 256 && ltb (e .asid) 65536 && ltb (e .granule) 256)
+    && (ltb (e .processor) 8 && ltb (e .asid) 65536 && ltb (e .granule) 4)
     && (isFlag (e .global) && isFlag (e .wide) && isFlag (e .leaf) && isFlag (e .xs))
 
--- "An entry has processor (0 to 7)": where a field does not fit, it counts as 255, which is none
+-- where a field does not fit, the processor counts as 255, which is none
 abbrev pub processorIn : EntryRecord → ℕ
 processorIn e = cond (entryFits e) (e .processor % 256) 255
 

@@ -59,7 +59,7 @@ pub fn company_in(company: CompanyRecord) -> Company
 pub fn entry_fits(entry: EntryRecord) -> bool
     ensures { λ r. ⌜ r ≡ entryFits entry ⌝ }
 {
-    let numbers = (entry.processor < 256) & (entry.asid < 65536) & (entry.granule < 256);
+    let numbers = (entry.processor < 8) & (entry.asid < 65536) & (entry.granule < 4);
     let flags = (entry.global < 2) & (entry.wide < 2) & (entry.leaf < 2) & (entry.xs < 2);
     company_fits(entry.company) & numbers & flags
 }
