@@ -6,8 +6,9 @@ use crate::inputs::*;
 use crate::records::*;
 use crate::time::keep;
 
-/// TLBI RVAAE1OS, X0.
+/// TLBI RVAAE1OS, X0 and TLBI RVAAE1OS, X2.
 const RVAAE1OS: u64 = 0xD508_8560;
+const RVAAE1OS_X2: u64 = 0xD508_8562;
 /// 2^33 bytes of 4K pages: the most that one step drops of them.
 const STEP_OPERAND: u64 = 1 << 46 | 3 << 44 | 31 << 39;
 const STEP_EXPONENT: u64 = 33;
@@ -34,6 +35,13 @@ impl Judge {
     fn leaves(mut self) -> Judge {
         self.target.leaves = 1;
         self.what += ", leaves";
+        self
+    }
+
+    /// Two words in turn, so that no step has the word of the step before it.
+    fn in_turn(mut self) -> Judge {
+        self.list.chunks_exact_mut(6).for_each(|steps| steps[3] = RVAAE1OS_X2);
+        self.what += ", two words in turn";
         self
     }
 
@@ -179,6 +187,9 @@ pub fn all() -> Vec<Box<dyn Case>> {
     }
     cases.push(Box::new(Judge::new(16, 55).leaves()));
     cases.push(Box::new(Judge::new(16, 37).backwards()));
+    for steps in [4, 16] {
+        cases.push(Box::new(Judge::new(steps, 55).in_turn()));
+    }
     for one_in in [1024, 16, 1] {
         cases.push(Box::new(List::new(4096, one_in, 0)));
     }

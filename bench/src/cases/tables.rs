@@ -70,6 +70,15 @@ impl Execute {
         Execute { what: filled.name(), kept, table, state: state(), word: RVAAE1IS }
     }
 
+    /// Processors of two outer and four inner domains, of which an execution has to tell those that it reaches.
+    fn in_domains() -> Execute {
+        let mut execute = Execute::new(Filled::ManyGuests, 16);
+        execute.what = "many guests, domains of two processors";
+        execute.state.board.inner = [0, 0, 1, 1, 2, 2, 3, 3];
+        execute.state.board.outer = [0, 0, 0, 0, 1, 1, 1, 1];
+        execute
+    }
+
     /// A trap: what an execution costs that does not come to the table.
     fn trapped() -> Execute {
         let mut state = state();
@@ -329,6 +338,7 @@ pub fn all() -> Vec<Box<dyn Case>> {
             cases.push(Box::new(Execute::new(filled, slots)));
         }
     }
+    cases.push(Box::new(Execute::in_domains()));
     cases.push(Box::new(Execute::trapped()));
     let list = [RVAAE1IS, TWO_MEBIBYTES, 0].repeat(16);
     cases.push(Box::new(Run { table: Filled::ManyGuests.table(2048), list, state: state() }));
