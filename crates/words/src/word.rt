@@ -1,7 +1,7 @@
 // The operation word type: SYS and SYSP are its constants, `is_fixed`, `has_crm`, `read` and `build` its functions.
 ghost use mathlib.Core.Path.{_≡_};
 ghost use mathlib.Core.Bool.{cond};
-ghost use Prim.Native.Nat.{_≤_};
+ghost use Prim.Native.Nat.{_+_, _≤_};
 ghost use Rattle.machine.specs.Word.{crmIn, isFixed, readOf, builtOf};
 ghost use Rattle.words.specs.Crm.{hasCrm};
 use crate::numbers::name_bits;
@@ -83,21 +83,22 @@ impl OperationWord {
             let crn = crn_of(op.nxs) as u64;
             let shared = share_bits(name, share);
             let rt = op.rt as u64;
-            Built::Word(fixed_of(op.tlbip) + named + crn * 4096 + shared + rt)
+            Built::Word(OperationWord::SYS + sysp_bit(op.tlbip) + named + crn * 4096 + shared + rt)
         } else {
             Built::Unfit
         }
     }
 }
 
-fn fixed_of(tlbip: bool) -> u64
-    ensures { λ r. ⌜ r ≡ cond tlbip 0xD5480000 0xD5080000 ⌝ }
-    ensures { λ r. ⌜ r ≤ 0xD5480000 ⌝ }
+// What SYSP has more than SYS: bit 22. Added in `build` it is the flag, shifted; all fixed bits from one function would be a choice of two constants.
+fn sysp_bit(tlbip: bool) -> u64
+    ensures { λ r. ⌜ 0xD5080000 + r ≡ cond tlbip 0xD5480000 0xD5080000 ⌝ }
+    ensures { λ r. ⌜ r ≤ 0x400000 ⌝ }
 {
     if tlbip {
-        OperationWord::SYSP
+        OperationWord::SYSP - OperationWord::SYS
     } else {
-        OperationWord::SYS
+        0
     }
 }
 

@@ -23,17 +23,17 @@ share-bits-requires c κs = search needs
 cast-rt : tie.Need-cast-rt
 cast-rt c = search needs
 
-fixed-of-requires : tie.Need-fixed-of-requires
-fixed-of-requires c κs = search needs
+sysp-bit-requires : tie.Need-sysp-bit-requires
+sysp-bit-requires c κs = search needs
 
 add-t12 : tie.Need-add-t12
 add-t12 c = search needs
 
-mul-t13 : tie.Need-mul-t13
-mul-t13 c = search needs
+add-t13 : tie.Need-add-t13
+add-t13 c = search needs
 
-add-t14 : tie.Need-add-t14
-add-t14 c = search needs
+mul-t14 : tie.Need-mul-t14
+mul-t14 c = search needs
 
 add-t15 : tie.Need-add-t15
 add-t15 c = search needs
@@ -41,13 +41,16 @@ add-t15 c = search needs
 add-t16 : tie.Need-add-t16
 add-t16 c = search needs
 
+add-t17 : tie.Need-add-t17
+add-t17 c = search needs
+
 returns : tie.Need-returns
 unfolding builtOf wordOf
 returns c =
     let named = c .before .before .before .before .name-bits .ensures .0 in
     let crn = c .before .before .before .crn-of .ensures in
     let shared = c .before .before .share-bits .ensures .0 in
-    rw (lt-ltb _ _ (c .before .before .before .before .before .if1 .taken)) (ap Word (omega (arith, c .fixed-of .ensures .0, named, crn, shared)))
+    rw (lt-ltb _ _ (c .before .before .before .before .before .if1 .taken)) (ap Word (omega (arith, c .sysp-bit .ensures .0, named, crn, shared)))
 
 returns-2 : tie.Need-returns-2
 unfolding builtOf
@@ -62,11 +65,12 @@ build-spec =
     cast-crn
     share-bits-requires
     cast-rt
-    fixed-of-requires
+    sysp-bit-requires
     add-t12
-    mul-t13
-    add-t14
+    add-t13
+    mul-t14
     add-t15
     add-t16
+    add-t17
     returns
     returns-2)
