@@ -236,12 +236,12 @@ operation-taken o h5 =
     let s = ltb (o .share) 3 in
     let x = isFlag (o .nxs) in
     let t = isFlag (o .tlbip) in
-    let r = ltb (o .rt) 256 in
+    let r = ltb (o .rt) 32 in
     let h4 = and-0 (n && s && x && t) r h5 in
     let h3 = and-0 (n && s && x) t h4 in
     let h2 = and-0 (n && s) x h3 in
     operation-record (name-there (o .name) (ltb-true (o .name) 10 (and-0 n s h2))) (share-there (o .share) (ltb-true (o .share) 3 (and-1 n s h2))) (flag-taken (o .nxs) (and-1 (n && s) x h3))
-    (flag-taken (o .tlbip) (and-1 (n && s && x) t h4)) (ap (λ (y : Bool). cond y (o .rt % 256) 255) h5 ∙ under (o .rt) 256 (and-1 (n && s && x && t) r h5))
+    (flag-taken (o .tlbip) (and-1 (n && s && x) t h4)) (ap (λ (y : Bool). cond y (o .rt % 32) 255) h5 ∙ under (o .rt) 32 (and-1 (n && s && x && t) r h5))
 
 name-low : (n : Name) → nameNumber n < 10
 name-low RVAE1 = lit< tt
@@ -260,8 +260,8 @@ share-low Local = lit< tt
 share-low Inner = lit< tt
 share-low Outer = lit< tt
 
-pub operation-again : (o : Operation) → o .rt < 256 → operationIn (operationOf o) ≡ o
+pub operation-again : (o : Operation) → o .rt < 32 → operationIn (operationOf o) ≡ o
 unfolding operationIn operationFits
 operation-again o r =
     let all : operationFits (operationOf o) ≡ true = simp (fits (name-low (o .name)), fits (share-low (o .share)), fits (flag-low (o .nxs)), fits (flag-low (o .tlbip)), fits r) in
-    operation-same (name-back (o .name)) (share-back (o .share)) (flag-back (o .nxs)) (flag-back (o .tlbip)) (ap (λ (y : Bool). cond y (o .rt % 256) 255) all ∙ mod-eq-of-lt r)
+    operation-same (name-back (o .name)) (share-back (o .share)) (flag-back (o .nxs)) (flag-back (o .tlbip)) (ap (λ (y : Bool). cond y (o .rt % 32) 255) all ∙ mod-eq-of-lt r)

@@ -64,7 +64,7 @@ operation-fit o h5 =
     let s = ltb (o .share) 3 in
     let x = isFlag (o .nxs) in
     let t = isFlag (o .tlbip) in
-    let h4 = and-0 (n && s && x && t) (ltb (o .rt) 256) h5 in
+    let h4 = and-0 (n && s && x && t) (ltb (o .rt) 32) h5 in
     let h3 = and-0 (n && s && x) t h4 in
     let h2 = and-0 (n && s) x h3 in
     record {

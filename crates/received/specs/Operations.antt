@@ -27,13 +27,13 @@ nameAt x =
 unfoldable pub shareAt : ℕ → Share
 shareAt x = cond (eqb x 0) Local (cond (eqb x 1) Inner Outer)
 
--- the values that its fields can have; Rt is a byte
+-- the values that its fields can have: Rt is 0 to 31
 unfoldable pub operationFits : OperationRecord → Bool
-operationFits o = ltb (o .name) 10 && ltb (o .share) 3 && isFlag (o .nxs) && isFlag (o .tlbip) && ltb (o .rt) 256
+operationFits o = ltb (o .name) 10 && ltb (o .share) 3 && isFlag (o .nxs) && isFlag (o .tlbip) && ltb (o .rt) 32
 
 -- where a field does not fit, Rt counts as 255, which no word has room for
 abbrev pub rtIn : OperationRecord → ℕ
-rtIn o = cond (operationFits o) (o .rt % 256) 255
+rtIn o = cond (operationFits o) (o .rt % 32) 255
 
 unfoldable pub operationIn : OperationRecord → Operation
 operationIn o = record { name = nameAt (o .name); share = shareAt (o .share); nxs = flagIn (o .nxs); tlbip = flagIn (o .tlbip); rt = rtIn o }

@@ -51,7 +51,7 @@ fn share_at(number: u64) -> Share
 pub fn operation_fits(op: OperationRecord) -> bool
     ensures { λ r. ⌜ r ≡ operationFits op ⌝ }
 {
-    (op.name < 10) & (op.share < 3) & (op.nxs < 2) & (op.tlbip < 2) & (op.rt < 256)
+    (op.name < 10) & (op.share < 3) & (op.nxs < 2) & (op.tlbip < 2) & (op.rt < 32)
 }
 
 // A flag that fits is its lowest bit.
@@ -66,6 +66,6 @@ pub fn operation_in(op: OperationRecord) -> Operation
         share,
         nxs: op.nxs % 2 == 1,
         tlbip: op.tlbip % 2 == 1,
-        rt: (op.rt % 256) as u8,
+        rt: (op.rt % 32) as u8,
     }
 }
