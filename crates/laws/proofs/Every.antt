@@ -8,7 +8,7 @@ use native.Mathlib.Numerals.{add-one}
 use native.Mathlib.Omega.{arith}
 use lib.Dec.{ltb}
 use borrow.Author.Tests.{ltb-true, ltb-false}
-use Rattle.laws.proofs.Truth.{and-0, and-1, clash}
+use Rattle.laws.proofs.Truth.{alike, and-0, and-1}
 use Rattle.laws.specs.Every.{every}
 
 -- where the test holds at every number below n, it holds at each of them
@@ -48,7 +48,7 @@ every-end f j n b p h k = let e : j ≡ n = omega arith in p ∙ ap (every f) e
 -- a test of two numbers that holds of one and itself, and both ways or neither: each number against those below it is enough
 pub every-half : (f : ℕ → ℕ → Bool) → ((p : ℕ) → f p p ≡ true) → ((p q : ℕ) → f p q ≡ true → f q p ≡ true) → (n : ℕ) →
     every (λ p. every (f p) p) n ≡ every (λ p. every (f p) n) n
-every-half f own turned n = go (every (λ p. every (f p) p) n) refl (every (λ p. every (f p) n) n) refl
+every-half f own turned n = alike (every (λ p. every (f p) p) n) (every (λ p. every (f p) n) n) full part
   where
     below : every (λ p. every (f p) p) n ≡ true → (p q : ℕ) → p < n → q < p → f p q ≡ true
     below h p q hp hq = at (f p) p (at (λ (m : ℕ). every (f m) m) n h p hp) q hq
@@ -63,9 +63,3 @@ every-half f own turned n = go (every (λ p. every (f p) p) n) refl (every (λ p
 
     part : every (λ p. every (f p) n) n ≡ true → every (λ p. every (f p) p) n ≡ true
     part h = each (λ (p : ℕ). every (f p) p) n (λ (p : ℕ) (hp : p < n). each (f p) p (λ (q : ℕ) (hq : q < p). at (f p) n (at (λ (m : ℕ). every (f m) n) n h p hp) q (omega arith)))
-
-    go : (a : Bool) → every (λ p. every (f p) p) n ≡ a → (b : Bool) → every (λ p. every (f p) n) n ≡ b → a ≡ b
-    go true x true y = refl
-    go false x false y = refl
-    go true x false y = clash (full x) y
-    go false x true y = clash (part y) x

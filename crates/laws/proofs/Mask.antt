@@ -5,7 +5,7 @@ use mathlib.Core.Path.{_≡_, refl, sym, ap, _∙_}
 use native.Mathlib.Nat.{pow-succ', div-div-eq-div-mul, div-eq-of-lt}
 use native.Mathlib.Omega.{arith}
 use lib.Dec.{eqb}
-use lib.Pow.{pow-mono}
+use lib.Pow.{pow-mono, pow-pos}
 use Rattle.laws.specs.Mask.{bitOf, maskFrom}
 
 -- a mask of n numbers fits n bits
@@ -54,6 +54,16 @@ pub mask-same : (f g : ℕ → Bool) (p n : ℕ) → ((k : ℕ) → f k ≡ g k)
 unfolding maskFrom
 mask-same f g p zero h = refl
 mask-same f g p (suc n) h = simp (h p, mask-same f g (suc p) n h)
+
+-- all of n numbers in a row are n ones
+pub mask-all : (f : ℕ → Bool) (p n : ℕ) → ((k : ℕ) → p ≤ k → k < p + n → f k ≡ true) → maskFrom f p n ≡ 2 ^ n - 1
+unfolding maskFrom
+mask-all f p zero h = refl
+mask-all f p (suc n) h =
+    let first : _≡_ {A = ℕ} (cond (f p) 1 0) 1 = ap (λ (b : Bool). cond b 1 0) (h p (omega arith) (omega arith)) in
+    let rest : maskFrom f (suc p) n ≡ 2 ^ n - 1 =
+    mask-all f (suc p) n (λ (k : ℕ) (l : suc p ≤ k) (u : k < suc p + n). h k (omega arith) (omega arith)) in
+    omega (arith, first, rest, pow-succ' 2 n, pow-pos n)
 
 -- one number more, before the others
 pub mask-more : (f : ℕ → Bool) (p n m : ℕ) (b : Bool) → b ≡ f p → m ≡ maskFrom f (suc p) n → cond b 1 0 + 2 * m ≡ maskFrom f p (suc n)

@@ -29,6 +29,12 @@ or-1 false b h = h
 pub clash : {A : Type 0} {b : Bool} → b ≡ true → b ≡ false → A
 clash t f = absurd (let h : true ≡ false = sym t ∙ f in let z : _≡_ {A = ℕ} 0 1 = cc in omega arith)
 
+-- two of which each holds where the other does are one
+pub alike : (a b : Bool) → (a ≡ true → b ≡ true) → (b ≡ true → a ≡ true) → a ≡ b
+alike true b there back = sym (there refl)
+alike false true there back = back refl
+alike false false there back = refl
+
 -- a part that holds is enough
 pub or-left : (a b : Bool) → a ≡ true → (a || b) ≡ true
 or-left a b h = ap (λ (x : Bool). x || b) h

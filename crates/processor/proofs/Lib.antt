@@ -1,2 +1,3 @@
 -- Laws of this room.
+pub mod Number
 pub mod One

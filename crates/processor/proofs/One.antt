@@ -1,6 +1,6 @@
--- Eight processors of one outer domain: no two of those below the count clash.
+-- Eight processors that are one domain: any two are in the same, and no two clash where it is the outer.
 use Prim.Native.Nat.{ℕ, _≤_, _<_}
-use mathlib.Core.Bool.{true, false, not}
+use mathlib.Core.Bool.{true, not}
 use mathlib.Core.List.{List}
 use mathlib.Core.Path.{_≡_, sym, _∙_}
 use native.Mathlib.Omega.{arith}
@@ -8,22 +8,23 @@ use lib.Dec.{eqb}
 use lib.ListN.{getD}
 use borrow.Author.Tests.{eqb-true, eq-eqb}
 use Rattle.laws.proofs.Every.{at, each}
-use Rattle.laws.proofs.Truth.{not-so, clash, or-right}
+use Rattle.laws.proofs.Truth.{or-right}
 use Rattle.laws.specs.Every.{every}
 use Rattle.machine.specs.State.{agreeBy}
 use Rattle.processor.specs.Domains.{isFirst}
 
+-- any two of them are in the same
+pub one-same : (domains : List ℕ) → every (isFirst domains) 8 ≡ true → (p q : ℕ) → p < 8 → q < 8 → eqb (getD domains p 0) (getD domains q 0) ≡ true
+one-same domains h p q l m = eq-eqb (getD domains p 0) (getD domains q 0) (first p l ∙ sym (first q m))
+  where
+    first : (k : ℕ) → k < 8 → getD domains k 0 ≡ getD domains 0 0
+    first k u = eqb-true (getD domains k 0) (getD domains 0 0) (at (isFirst domains) 8 h k u)
+
+-- so where it is the outer, no two of those below the count clash
 pub one-agrees : (inner outer : List ℕ) (n : ℕ) → n ≤ 8 → every (isFirst outer) 8 ≡ true → every (λ p. every (agreeBy inner outer p) n) n ≡ true
 one-agrees inner outer n most h = each (λ (p : ℕ). every (agreeBy inner outer p) n) n (λ (p : ℕ) (l : p < n). each (agreeBy inner outer p) n (λ (q : ℕ) (m : q < n). two p q l m))
   where
-    first : (p : ℕ) → p < n → getD outer p 0 ≡ getD outer 0 0
-    first p l = eqb-true (getD outer p 0) (getD outer 0 0) (at (isFirst outer) 8 h p (omega (arith, most, l)))
-
     two : (p q : ℕ) → p < n → q < n → agreeBy inner outer p q ≡ true
     two p q l m =
         or-right (not (eqb (getD inner p 0) (getD inner q 0))) (eqb (getD outer p 0) (getD outer q 0))
-        (eq-eqb (getD outer p 0) (getD outer q 0) (first p l ∙ sym (first q m)))
-
--- a processor of another domain than the first
-pub one-not : (domains : List ℕ) (n p : ℕ) → p < n → isFirst domains p ≡ false → every (isFirst domains) n ≡ false
-one-not domains n p l d = not-so (every (isFirst domains) n) (λ (h : every (isFirst domains) n ≡ true). clash (at (isFirst domains) n h p l) d)
+        (one-same outer h p q (omega arith) (omega arith))

@@ -5,7 +5,7 @@ ghost use Prim.Native.Nat.{_<_, _≤_};
 ghost use lib.ListN.{getD};
 ghost use Rattle.laws.specs.Every.{every};
 ghost use Rattle.machine.specs.State.{agreeBy, badBoard};
-ghost use Rattle.processor.specs.Domains.{isFirst};
+ghost use Rattle.processor.specs.Domains.{isFirst, numberOf};
 use machine::Board;
 
 pub fn is_bad_board(board: Board) -> bool
@@ -23,22 +23,31 @@ pub fn is_bad_board(board: Board) -> bool
     let inner = board.inner;
     let outer = board.outer;
     // most boards are one outer domain, and nothing can clash there
-    if is_one_domain(&outer) {
+    if is_one_domain(outer) {
         return false;
     }
     domains_clash(&inner, &outer, board.count)
 }
 
-// Whether all eight are in the domain of the first: a bound that does not change is a row of compares, and no loop.
-fn is_one_domain(domains: &[u8; 8]) -> bool
-    ensures { λ r. ⌜ r ≡ every (isFirst (now (domains .entry))) 8 ⌝ }
+// Whether all eight are in the domain of the first: as one number of eight bytes, which is one load and one compare.
+pub fn is_one_domain(domains: [u8; 8]) -> bool
+    ensures { λ r. ⌜ r ≡ every (isFirst domains) 8 ⌝ }
 {
-    for p in 0..8 {
-        if domains[p] != domains[0] {
-            return false;
-        }
+    let first = domains[0] as u64;
+    number_of(domains) == first * 0x0101010101010101
+}
+
+// The domains as the bytes of a number, that of processor 0 lowest.
+fn number_of(domains: [u8; 8]) -> u64
+    ensures { λ r. ⌜ r ≡ numberOf domains ⌝ }
+{
+    let mut number = 0;
+    let mut p = 8;
+    while 0 < p {
+        p -= 1;
+        number = domains[p] as u64 + 256 * number;
     }
-    true
+    number
 }
 
 // Whether two processors below the count are in one inner and different outer domains: each is held against those below it.

@@ -6,6 +6,7 @@ mod security;
 mod unit;
 
 pub use board::domain_at;
+pub use board::is_one_domain;
 pub use check::is_bad;
 pub use el2::el2_enabled;
 pub use el2::hcrx_live;

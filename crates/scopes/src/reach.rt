@@ -11,6 +11,7 @@ use machine::Operation;
 use machine::Share;
 use machine::State;
 use processor::domain_at;
+use processor::is_one_domain;
 
 // A bit for each processor, number 0 lowest.
 pub fn reached_by(state: State, op: Operation) -> u64
@@ -44,8 +45,20 @@ fn only(own: u8) -> u64
     0
 }
 
-// Those in the own domain, which is looked up once.
+// Those in the own domain: most boards are one domain, and it has all eight.
 fn mates(domains: [u8; 8], own: u8) -> u64
+    ensures { λ r. ⌜ (r ≡ maskFrom (λ (p : ℕ). eqb (getD domains p 0) (getD domains own 0)) 0 8) × (r < 256) ⌝ }
+{
+    if own < 8 {
+        if is_one_domain(domains) {
+            return 255;
+        }
+    }
+    mates_one_by_one(domains, own)
+}
+
+// The same on any board: the own domain is looked up once.
+fn mates_one_by_one(domains: [u8; 8], own: u8) -> u64
     ensures { λ r. ⌜ (r ≡ maskFrom (λ (p : ℕ). eqb (getD domains p 0) (getD domains own 0)) 0 8) × (r < 256) ⌝ }
 {
     let domain = domain_at(domains, own);

@@ -27,9 +27,9 @@ is-one-domain-requires c κs = search needs
 returns-4 : tie.Need-returns-4
 unfolding badBoard domainsAgree
 returns-4 c =
-    let b = c .before .before .before .before .before .before .before .before .before .before .before .args .board in
-    let one = one-agrees (b .inner) (b .outer) (b .count) (c .before .before .before .before .before .before .before .if2 .left) (sym (c .before .is-one-domain .ensures) ∙ c .if4 .taken) in
-    simp (one, lt-leb _ _ (c .before .before .before .before .before .if3 .left), le-ltb _ _ (c .before .before .before .before .before .before .before .if2 .left), le-ltb _ _ (c .before .before .before .before .before .before .before .before .before .if1 .left))
+    let b = c .before .before .before .before .before .before .before .before .before .before .args .board in
+    let one = one-agrees (b .inner) (b .outer) (b .count) (c .before .before .before .before .before .before .if2 .left) (sym (c .before .is-one-domain .ensures) ∙ c .if4 .taken) in
+    simp (one, lt-leb _ _ (c .before .before .before .before .if3 .left), le-ltb _ _ (c .before .before .before .before .before .before .if2 .left), le-ltb _ _ (c .before .before .before .before .before .before .before .before .if1 .left))
 
 domains-clash-requires : tie.Need-domains-clash-requires
 domains-clash-requires c κs = search needs
@@ -37,8 +37,8 @@ domains-clash-requires c κs = search needs
 returns-5 : tie.Need-returns-5
 unfolding badBoard domainsAgree
 returns-5 c =
-    let b = c .before .before .before .before .before .before .before .before .before .before .before .before .before .before .args .board in
-    simp (c .domains-clash .ensures ∙ ap not (domains-half (b .inner) (b .outer) (b .count)), lt-leb _ _ (c .before .before .before .before .before .before .before .before .if3 .left), le-ltb _ _ (c .before .before .before .before .before .before .before .before .before .before .if2 .left), le-ltb _ _ (c .before .before .before .before .before .before .before .before .before .before .before .before .if1 .left))
+    let b = c .before .before .before .before .before .before .before .before .before .before .before .before .before .args .board in
+    simp (c .domains-clash .ensures ∙ ap not (domains-half (b .inner) (b .outer) (b .count)), lt-leb _ _ (c .before .before .before .before .before .before .before .if3 .left), le-ltb _ _ (c .before .before .before .before .before .before .before .before .before .if2 .left), le-ltb _ _ (c .before .before .before .before .before .before .before .before .before .before .before .if1 .left))
 
 pub is-bad-board-spec : {M : Type 1} → statement M
 is-bad-board-spec =

@@ -1,63 +1,37 @@
 -- `processor::board::is_one_domain` meets its contract.
-use Prim.Native.Nat.{_-_, _≤_}
-use mathlib.Core.Path.{_≡_, sym}
-use mathlib.Core.Bool.{true}
+use Prim.Native.Nat.{ℕ, _*_}
+use mathlib.Core.Path.{_≡_, ap, _∙_}
+use native.Mathlib.Omega.{arith}
+use lib.Dec.{eqb}
+use lib.ListN.{length, getD}
+use mir.Syntax.{w8}
+use mir.Val.{Fits}
 use borrow.Author.Needs.{needs}
-use borrow.Author.Tests.{eq-eqb, ne-eqb}
-use Rattle.laws.proofs.Every.{every-none, every-more, every-end}
-use Rattle.laws.specs.Every.{every}
-use Rattle.processor.specs.Domains.{isFirst}
-use Rattle.processor.proofs.One.{one-not}
+use Rattle.processor.proofs.Number.{Bytes, number-first}
 use Rattle.processor.proofs.board.is_one_domain.Statement.{statement}
 use Rattle.processor.proofs.board.is_one_domain.Tie as tie
 
-abbrev Inv-loop : tie.InvT-loop
-Inv-loop domains p₀ p = (p ≤ 8) × (true ≡ every (isFirst domains) p)
+array-read-first : tie.Need-array-read-first
+array-read-first c = search needs
 
-abbrev μ-loop : tie.MeasureT-loop
-μ-loop domains p₀ p = 8 - p
+cast-first : tie.Need-cast-first
+cast-first c = search needs
 
-loop-holds : tie.Need-loop-holds Inv-loop μ-loop
-loop-holds c = (search needs, every-none _)
+number-of-requires : tie.Need-number-of-requires
+number-of-requires c κs = search needs
 
-element-copy-out-if1 : tie.Need-element-copy-out-if1 Inv-loop μ-loop
-element-copy-out-if1 c = search needs
+bytes : (c : tie.After-number-of) → Bytes (c .before .args .t1)
+bytes c k = let f : Fits w8 (getD (c .before .args .t1) k 0) = search needs in f .fits
 
-element-copy-out-if1-2 : tie.Need-element-copy-out-if1-2 Inv-loop μ-loop
-element-copy-out-if1-2 c = search needs
+mul-result : tie.Need-mul-result
+mul-result c = omega (arith, bytes c 0)
 
-returns : tie.Need-returns Inv-loop μ-loop
+returns : tie.Need-returns
 returns c =
-    let a = c .before .before .before .before .before .args in
-    let l = c .before .before .before .before .loop in
-    sym (one-not (a .domains .now) 8 (l .p) (c .before .before .before .loop-test .taken) (ne-eqb _ _ (c .if1 .taken)))
-
-add-p : tie.Need-add-p Inv-loop μ-loop
-add-p c = search needs
-
-loop-less : tie.Need-loop-less Inv-loop μ-loop
-loop-less c = search needs
-
-loop-again : tie.Need-loop-again Inv-loop μ-loop
-loop-again c =
-    let a = c .before .before .before .before .before .args in
-    let l = c .before .before .before .before .loop in
-    (search needs, every-more (isFirst (a .domains .now)) (l .p) true true (sym (eq-eqb _ _ (c .if1 .left))) (l .inv .1))
-
-returns-2 : tie.Need-returns-2 Inv-loop μ-loop
-returns-2 c = every-end _ _ _ _ (c .before .loop .inv .1) (c .before .loop .inv .0) (c .loop-test .left)
+    let n : length (c .before .args .t1) ≡ 8 = search needs in
+    ap (λ (x : ℕ). eqb x (getD (c .before .args .t1) 0 0 * 0x0101010101010101)) (c .number-of .ensures)
+    ∙ number-first (c .before .args .t1) n (bytes c)
 
 pub is-one-domain-spec : {M : Type 1} → statement M
 is-one-domain-spec =
-    tie.close
-    (tie.spec
-    Inv-loop
-    μ-loop
-    loop-holds
-    element-copy-out-if1
-    element-copy-out-if1-2
-    returns
-    add-p
-    loop-less
-    loop-again
-    returns-2)
+    tie.close (tie.spec array-read-first cast-first number-of-requires mul-result returns)

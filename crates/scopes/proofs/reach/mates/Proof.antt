@@ -1,73 +1,31 @@
 -- `scopes::reach::mates` meets its contract.
-use Prim.Native.Nat.{ℕ, _+_, _-_, _*_, _≤_, _<_}
-use mathlib.Core.Path.{_≡_, ap, ap₂, _∙_}
+use Prim.Native.Nat.{ℕ, _+_, _≤_, _<_}
+use mathlib.Core.Path.{sym, _∙_}
 use native.Mathlib.Omega.{arith}
-use lib.Dec.{eqb}
+use lib.Dec.{eqb, lit<}
 use lib.ListN.{getD}
 use borrow.Author.Needs.{needs}
-use Rattle.laws.proofs.Mask.{mask-none, mask-down, mask-fits, mask-end}
-use Rattle.laws.specs.Mask.{maskFrom}
+use Rattle.laws.proofs.Mask.{mask-all}
+use Rattle.processor.proofs.One.{one-same}
 use Rattle.scopes.proofs.reach.mates.Statement.{statement}
 use Rattle.scopes.proofs.reach.mates.Tie as tie
 
-abbrev Inv-loop : tie.InvT-loop
-Inv-loop domains own domain mask₀ p₀ mask p =
-    (p ≤ 8) × (mask < 256) × (mask ≡ maskFrom (λ (q : ℕ). eqb (getD domains q 0) (getD domains own 0)) p (8 - p))
+is-one-domain-requires : tie.Need-is-one-domain-requires
+is-one-domain-requires c κs = search needs
 
-abbrev μ-loop : tie.MeasureT-loop
-μ-loop domains own domain mask₀ p₀ mask p = p
+returns : tie.Need-returns
+returns c =
+    let a = c .before .before .before .args in
+    let one = one-same (a .domains) (sym (c .before .is-one-domain .ensures) ∙ c .if2 .taken) in
+    let own = c .before .before .if1 .taken in
+    (sym (mask-all (λ (p : ℕ). eqb (getD (a .domains) p 0) (getD (a .domains) (a .own) 0)) 0 8 (λ (p : ℕ) (l : 0 ≤ p) (u : p < 0 + 8). one p (a .own) (omega arith) own)), lit< tt)
 
-domain-at-requires : tie.Need-domain-at-requires Inv-loop μ-loop
-domain-at-requires c κs = search needs
+mates-one-by-one-requires : tie.Need-mates-one-by-one-requires
+mates-one-by-one-requires c κs = search needs
 
-loop-holds : tie.Need-loop-holds Inv-loop μ-loop
-loop-holds c = (search needs, search needs, mask-none _ _)
-
-sub-p : tie.Need-sub-p Inv-loop μ-loop
-sub-p c = search needs
-
-domain-at-requires-2 : tie.Need-domain-at-requires-2 Inv-loop μ-loop
-domain-at-requires-2 c κs = search needs
-
-one-if-requires : tie.Need-one-if-requires Inv-loop μ-loop
-one-if-requires c κs = search needs
-
-mul-mask : tie.Need-mul-mask Inv-loop μ-loop
-mul-mask c = search needs
-
-add-mask : tie.Need-add-mask Inv-loop μ-loop
-add-mask c = search needs
-
-loop-less : tie.Need-loop-less Inv-loop μ-loop
-loop-less c = search needs
-
-loop-again : tie.Need-loop-again Inv-loop μ-loop
-loop-again c =
-    let b = c .before in
-    let l = b .before .before .loop in
-    let i = l .inv in
-    let same = ap₂ eqb (b .domain-at2 .ensures) (b .before .before .before .domain-at .ensures) in
-    let m = mask-down _ (l .p) 8 _ _ (b .before .loop-test .taken) (i .0) same (i .2) in
-    let e = ap (λ (x : ℕ). x + 2 * l .mask) (c .one-if .ensures .0) ∙ m in
-    let f : 8 - (l .p - 1) ≤ 8 = omega arith in
-    (search needs, mask-fits _ _ _ 8 _ e f, e)
-
-returns : tie.Need-returns Inv-loop μ-loop
-returns c = (mask-end _ _ 8 _ (c .before .loop .inv .2) (c .loop-test .left), c .before .loop .inv .1)
+returns-2 : tie.Need-returns-2
+returns-2 c = search needs
 
 pub mates-spec : {M : Type 1} → statement M
 mates-spec =
-    tie.close
-    (tie.spec
-    Inv-loop
-    μ-loop
-    domain-at-requires
-    loop-holds
-    sub-p
-    domain-at-requires-2
-    one-if-requires
-    mul-mask
-    add-mask
-    loop-less
-    loop-again
-    returns)
+    tie.close (tie.spec is-one-domain-requires returns mates-one-by-one-requires returns-2)
