@@ -11,6 +11,7 @@ use machine::State;
 use processor::is_bad;
 use tables::is_table;
 use words::OperationWord;
+use works::nothing_held;
 use works::resolve;
 
 pub fn execute(table: &mut [u64], state: State, word: u64, xt: u64, xt2: u64) -> Executed
@@ -24,7 +25,8 @@ pub fn execute(table: &mut [u64], state: State, word: u64, xt: u64, xt2: u64) ->
         return Executed::BadState;
     }
     let read = OperationWord { bits: word }.read();
-    let resolved = resolve(state, read, xt, xt2);
+    let held = nothing_held();
+    let resolved = resolve(state, read, held, xt, xt2);
     carry_out(table, resolved)
 }
 

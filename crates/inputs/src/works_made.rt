@@ -13,7 +13,8 @@ use words::OperationWord;
 
 pub fn work_of(state: State, step: Step, seed: u64) -> Work {
     let read = OperationWord { bits: step.word }.read();
-    let resolved = works::resolve(state, read, step.xt, step.xt2);
+    let held = works::nothing_held();
+    let resolved = works::resolve(state, read, held, step.xt, step.xt2);
     match resolved {
         Resolved::Works(work) => work,
         Resolved::Unknown => any_work(seed),

@@ -17,7 +17,7 @@ use tables::is_list;
 use targets::is_target;
 use words::OperationWord;
 use works::held_in;
-use works::resolve_held;
+use works::resolve;
 
 pub fn judge(state: State, target: Target, list: &[u64]) -> Judged
     ensures { λ r. ⌜ Verdict state target (now (list .entry)) r ⌝ }
@@ -53,7 +53,7 @@ fn by_steps(state: State, target: Target, list: &[u64]) -> Judged
         let read = OperationWord { bits: next }.read();
         let held = held_in(next == word, work);
         word = next;
-        let resolved = resolve_held(state, read, held, list[3 * i + 1], list[3 * i + 2]);
+        let resolved = resolve(state, read, held, list[3 * i + 1], list[3 * i + 2]);
         work = work_in(resolved);
         works[i] = work;
         checked = with_step(checked, company, n, i, work);

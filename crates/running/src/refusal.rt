@@ -7,6 +7,7 @@ ghost use Rattle.machine.specs.Execute.{refuses};
 use machine::Resolved;
 use machine::State;
 use words::OperationWord;
+use works::nothing_held;
 use works::resolve;
 
 // The first step that does not answer 0, or the number of steps.
@@ -30,7 +31,8 @@ fn is_refused(state: State, word: u64, xt: u64, xt2: u64) -> bool
     ensures { λ r. ⌜ r ≡ refuses state word xt xt2 ⌝ }
 {
     let read = OperationWord { bits: word }.read();
-    match resolve(state, read, xt, xt2) {
+    let held = nothing_held();
+    match resolve(state, read, held, xt, xt2) {
         Resolved::Works(work) => false,
         Resolved::Unknown => true,
         Resolved::Undefined => true,

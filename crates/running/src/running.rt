@@ -16,6 +16,7 @@ use processor::is_bad;
 use tables::is_list;
 use tables::is_table;
 use words::OperationWord;
+use works::nothing_held;
 use works::resolve;
 
 pub fn run(table: &mut [u64], state: State, list: &[u64]) -> Ran
@@ -62,7 +63,8 @@ fn run_step(table: &mut [u64], state: State, word: u64, xt: u64, xt2: u64) -> us
     ensures { λ r. ⌜ now (table .exit) ≡ tableBy (resolvedOf state word xt xt2) (now (table .entry)) ⌝ }
 {
     let read = OperationWord { bits: word }.read();
-    let resolved = resolve(state, read, xt, xt2);
+    let held = nothing_held();
+    let resolved = resolve(state, read, held, xt, xt2);
     let executed = carry_out(table, resolved);
     dropped(executed)
 }

@@ -6,5 +6,5 @@ mod resolution;
 pub use going::goes;
 pub use held::Held;
 pub use held::held_in;
+pub use held::nothing_held;
 pub use resolution::resolve;
-pub use resolution::resolve_held;

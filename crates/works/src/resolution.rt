@@ -7,7 +7,6 @@ ghost use Rattle.machine.specs.Execute.{resolvedRange, resolvedAccess, resolved
 ghost use Rattle.machine.specs.Goes.{workOf};
 ghost use Rattle.works.specs.Held.{Holds, HoldsOf};
 use crate::held::Held;
-use crate::held::nothing_held;
 use access::decide;
 use machine::Access;
 use machine::Company;
@@ -22,16 +21,9 @@ use machine::State;
 use machine::Work;
 use ranges::asked;
 
-// The word comes read: a call between a state's arrival and its use would have every field of the state put aside for it.
-pub fn resolve(state: State, read: Decoded, xt: u64, xt2: u64) -> Resolved
-    ensures { λ r. ⌜ r ≡ resolvedWord state xt xt2 read ⌝ }
-{
-    let held = nothing_held();
-    resolve_held(state, read, held, xt, xt2)
-}
-
-// The same with what is known of the word: one function decides for both, so that the access rules and the operand's are compiled into it.
-pub fn resolve_held(state: State, read: Decoded, held: Held, xt: u64, xt2: u64) -> Resolved
+// The word comes read: a call between a state's arrival and its use would have every field of the state put aside for it. What is held of it comes along,
+// also where nothing is: of two functions that ask the access rules, the compiler would take them into neither.
+pub fn resolve(state: State, read: Decoded, held: Held, xt: u64, xt2: u64) -> Resolved
     requires { ⌜ Holds state read held ⌝ }
     ensures { λ r. ⌜ r ≡ resolvedWord state xt xt2 read ⌝ }
 {

@@ -69,32 +69,32 @@ read-requires c κs = search needs
 held-in-requires : tie.Need-held-in-requires Inv-loop μ-loop
 held-in-requires c κs = search needs
 
-mul-resolve-held : tie.Need-mul-resolve-held Inv-loop μ-loop
-mul-resolve-held c = search needs
+mul-resolve : tie.Need-mul-resolve Inv-loop μ-loop
+mul-resolve c = search needs
 
-add-resolve-held : tie.Need-add-resolve-held Inv-loop μ-loop
-add-resolve-held c = search needs
+add-resolve : tie.Need-add-resolve Inv-loop μ-loop
+add-resolve c = search needs
 
-mul-resolve-held-2 : tie.Need-mul-resolve-held-2 Inv-loop μ-loop
-mul-resolve-held-2 c = search needs
+mul-resolve-2 : tie.Need-mul-resolve-2 Inv-loop μ-loop
+mul-resolve-2 c = search needs
 
-shared-slice-read-resolve-held : tie.Need-shared-slice-read-resolve-held Inv-loop μ-loop
-shared-slice-read-resolve-held c = search needs
+shared-slice-read-resolve : tie.Need-shared-slice-read-resolve Inv-loop μ-loop
+shared-slice-read-resolve c = search needs
 
-mul-resolve-held-3 : tie.Need-mul-resolve-held-3 Inv-loop μ-loop
-mul-resolve-held-3 c = search needs
+mul-resolve-3 : tie.Need-mul-resolve-3 Inv-loop μ-loop
+mul-resolve-3 c = search needs
 
-add-resolve-held-2 : tie.Need-add-resolve-held-2 Inv-loop μ-loop
-add-resolve-held-2 c = search needs
+add-resolve-2 : tie.Need-add-resolve-2 Inv-loop μ-loop
+add-resolve-2 c = search needs
 
-mul-resolve-held-4 : tie.Need-mul-resolve-held-4 Inv-loop μ-loop
-mul-resolve-held-4 c = search needs
+mul-resolve-4 : tie.Need-mul-resolve-4 Inv-loop μ-loop
+mul-resolve-4 c = search needs
 
-shared-slice-read-resolve-held-2 : tie.Need-shared-slice-read-resolve-held-2 Inv-loop μ-loop
-shared-slice-read-resolve-held-2 c = search needs
+shared-slice-read-resolve-2 : tie.Need-shared-slice-read-resolve-2 Inv-loop μ-loop
+shared-slice-read-resolve-2 c = search needs
 
-resolve-held-requires : tie.Need-resolve-held-requires Inv-loop μ-loop
-resolve-held-requires c κs =
+resolve-requires : tie.Need-resolve-requires Inv-loop μ-loop
+resolve-requires c κs =
     let a = c .before .before .before .before .before .before .before .before .before .before .before .args in
     let l = c .before .before .before .before .before .before .loop in
     comes-holds (a .state) (l .word) (getD (a .list .now) (3 * l .i) 0) (l .work) _ _ (l .inv .6) (c .before .before .before .read .ensures) (c .before .before .held-in .ensures)
@@ -125,7 +125,7 @@ loop-again c =
     let n = slots steps in
     let company = a .target .company in
     let w = stepWork (a .state) steps in
-    let resolved = read-resolved (a .state) (getD steps (3 * l .i) 0) (getD steps (3 * l .i + 1) 0) (getD steps (3 * l .i + 2) 0) _ _ (c .before .before .before .before .before .before .read .ensures) (c .before .before .resolve-held .ensures) in
+    let resolved = read-resolved (a .state) (getD steps (3 * l .i) 0) (getD steps (3 * l .i + 1) 0) (getD steps (3 * l .i + 2) 0) _ _ (c .before .before .before .before .before .before .read .ensures) (c .before .before .resolve .ensures) in
     let work = c .before .work-in .ensures ∙ ap workIn resolved in (
       omega arith,
       refl,
@@ -237,15 +237,15 @@ by-steps-spec =
     shared-slice-read-next
     read-requires
     held-in-requires
-    mul-resolve-held
-    add-resolve-held
-    mul-resolve-held-2
-    shared-slice-read-resolve-held
-    mul-resolve-held-3
-    add-resolve-held-2
-    mul-resolve-held-4
-    shared-slice-read-resolve-held-2
-    resolve-held-requires
+    mul-resolve
+    add-resolve
+    mul-resolve-2
+    shared-slice-read-resolve
+    mul-resolve-3
+    add-resolve-2
+    mul-resolve-4
+    shared-slice-read-resolve-2
+    resolve-requires
     work-in-requires
     mul-works
     array-set-from-works

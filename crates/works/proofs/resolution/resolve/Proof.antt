@@ -1,22 +1,22 @@
 -- `works::resolution::resolve` meets its contract.
-use mathlib.Core.Bool.{true}
-use mathlib.Core.Path.{_≡_}
 use borrow.Author.Needs.{needs}
-use Rattle.laws.proofs.Truth.{clash}
-use Rattle.machine.specs.declared.operation.Decoded.the-variants as decoded
-use Rattle.machine.specs.declared.operation.Operation.{Operation}
 use Rattle.works.proofs.resolution.resolve.Statement.{statement}
 use Rattle.works.proofs.resolution.resolve.Tie as tie
 
-nothing-held-requires : tie.Need-nothing-held-requires
-nothing-held-requires c κs = search needs
+enum-known-read : tie.Need-enum-known-read
+enum-known-read c = search needs
 
-resolve-held-requires : tie.Need-resolve-held-requires
-resolve-held-requires c κs =
-    λ (op : Operation) (r : c .before .args .read ≡ decoded.Known op) (h : c .nothing-held .result .known ≡ true). clash h (c .nothing-held .ensures)
+by-access-requires : tie.Need-by-access-requires
+by-access-requires c κs = c .before .before .before .pre _ (c .before .read .given .1)
+
+enum-told : tie.Need-enum-told
+enum-told c = search needs
 
 returns : tie.Need-returns
-returns c = search needs
+returns c = simp (c .by-access .ensures, c .before .before .read .given .1, c .before .before .before .match .keys1)
+
+returns-2 : tie.Need-returns-2
+returns-2 c = simp (c .enum-told .given .1, c .before .match .keys2)
 
 pub resolve-spec : {M : Type 1} → statement M
-resolve-spec = tie.close (tie.spec nothing-held-requires resolve-held-requires returns)
+resolve-spec = tie.close (tie.spec enum-known-read by-access-requires enum-told returns returns-2)
