@@ -8,6 +8,8 @@ use crate::time::keep;
 
 const SIZES: [usize; 4] = [16, 128, 1024, 2048];
 
+const TWO_DOMAINS: [u8; 8] = [0, 0, 0, 0, 1, 1, 1, 1];
+
 /// How a table is filled.
 #[derive(Clone, Copy, PartialEq, Eq)]
 enum Filled {
@@ -70,12 +72,12 @@ impl Execute {
         Execute { what: filled.name(), kept, table, state: state(), word: RVAAE1IS }
     }
 
-    /// Processors of two outer and four inner domains, of which an execution has to tell those that it reaches.
-    fn in_domains() -> Execute {
+    /// Processors of two inner domains, in one outer domain or in two: an execution has to tell those that it reaches.
+    fn in_domains(what: &'static str, outer: [u8; 8]) -> Execute {
         let mut execute = Execute::new(Filled::ManyGuests, 16);
-        execute.what = "many guests, domains of two processors";
-        execute.state.board.inner = [0, 0, 1, 1, 2, 2, 3, 3];
-        execute.state.board.outer = [0, 0, 0, 0, 1, 1, 1, 1];
+        execute.what = what;
+        execute.state.board.inner = TWO_DOMAINS;
+        execute.state.board.outer = outer;
         execute
     }
 
@@ -338,7 +340,8 @@ pub fn all() -> Vec<Box<dyn Case>> {
             cases.push(Box::new(Execute::new(filled, slots)));
         }
     }
-    cases.push(Box::new(Execute::in_domains()));
+    cases.push(Box::new(Execute::in_domains("many guests, two inner domains", [0; 8])));
+    cases.push(Box::new(Execute::in_domains("many guests, two inner and outer domains", TWO_DOMAINS)));
     cases.push(Box::new(Execute::trapped()));
     let list = [RVAAE1IS, TWO_MEBIBYTES, 0].repeat(16);
     cases.push(Box::new(Run { table: Filled::ManyGuests.table(2048), list, state: state() }));

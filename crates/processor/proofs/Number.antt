@@ -48,14 +48,21 @@ number-fits l p n m h s e =
     let left : length (drop p l) ≤ n = omega (arith, length-drop p l) in
     omega (arith, e, number-below (drop p l) n (λ (k : ℕ). omega (arith, getD-drop p l k 0, h (p + k))) left)
 
--- bytes with the number of as many that are all x are all x
-number-all : (x : ℕ) (l : List ℕ) → x < 256 → Bytes l → numberOf l ≡ numberOf (replicate (length l) x) → l ≡ replicate (length l) x
+-- as many bytes with the same number are the same
+pub number-same : (l m : List ℕ) → length l ≡ length m → Bytes l → Bytes m → numberOf l ≡ numberOf m → l ≡ m
 unfolding numberOf
-number-all x [] s h e = refl
-number-all x (b ∷ bs) s h e =
-    let first : b ≡ x = omega (arith, h 0, e) in
-    let rest : numberOf bs ≡ numberOf (replicate (length bs) x) = omega (arith, h 0, e) in
-    ap₂ (λ (y : ℕ) (ys : List ℕ). y ∷ ys) first (number-all x bs s (λ (k : ℕ). h (suc k)) rest)
+number-same [] [] n h k e = refl
+number-same [] (b ∷ bs) n h k e = absurd (omega arith)
+number-same (a ∷ rs) [] n h k e = absurd (omega arith)
+number-same (a ∷ rs) (b ∷ bs) n h k e =
+    let first : a ≡ b = omega (arith, h 0, k 0, e) in
+    let rest : numberOf rs ≡ numberOf bs = omega (arith, h 0, k 0, e) in
+    ap₂ (λ (y : ℕ) (ys : List ℕ). y ∷ ys) first (number-same rs bs (omega arith) (λ (i : ℕ). h (suc i)) (λ (i : ℕ). k (suc i)) rest)
+
+bytes-all : (n x : ℕ) → x < 256 → Bytes (replicate n x)
+bytes-all zero x h k = omega arith
+bytes-all (suc n) x h zero = h
+bytes-all (suc n) x h (suc k) = bytes-all n x h k
 
 -- eight that are all x: x times the number of eight ones
 number-eight : (x : ℕ) → numberOf (replicate 8 x) ≡ x * 0x0101010101010101
@@ -70,9 +77,7 @@ number-first l n h = alike (eqb (numberOf l) (x * 0x0101010101010101)) (every (i
     x = getD l 0 0
 
     all : numberOf l ≡ x * 0x0101010101010101 → l ≡ replicate 8 x
-    all e =
-        number-all x l (h 0) h (e ∙ sym (number-eight x) ∙ ap (λ (m : ℕ). numberOf (replicate m x)) (sym n))
-        ∙ ap (λ (m : ℕ). replicate m x) n
+    all e = number-same l (replicate 8 x) n h (bytes-all 8 x (h 0)) (e ∙ sym (number-eight x))
 
     there : eqb (numberOf l) (x * 0x0101010101010101) ≡ true → every (isFirst l) 8 ≡ true
     there e =

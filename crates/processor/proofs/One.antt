@@ -1,8 +1,8 @@
--- Eight processors that are one domain: any two are in the same, and no two clash where it is the outer.
+-- Eight processors that are one domain: any two are in the same, and no two clash where it is the outer; nor where inner and outer domains are the same.
 use Prim.Native.Nat.{ℕ, _≤_, _<_}
-use mathlib.Core.Bool.{true, not}
+use mathlib.Core.Bool.{Bool, true, false, not, _||_}
 use mathlib.Core.List.{List}
-use mathlib.Core.Path.{_≡_, sym, _∙_}
+use mathlib.Core.Path.{_≡_, refl, sym, _∙_}
 use native.Mathlib.Omega.{arith}
 use lib.Dec.{eqb}
 use lib.ListN.{getD}
@@ -28,3 +28,11 @@ one-agrees inner outer n most h = each (λ (p : ℕ). every (agreeBy inner outer
     two p q l m =
         or-right (not (eqb (getD inner p 0) (getD inner q 0))) (eqb (getD outer p 0) (getD outer q 0))
         (one-same outer h p q (omega arith) (omega arith))
+
+-- nor do they where inner and outer domains are the same
+pub same-agrees : (domains : List ℕ) (n : ℕ) → every (λ p. every (agreeBy domains domains p) n) n ≡ true
+same-agrees domains n = each (λ (p : ℕ). every (agreeBy domains domains p) n) n (λ (p : ℕ) (l : p < n). each (agreeBy domains domains p) n (λ (q : ℕ) (m : q < n). own (eqb (getD domains p 0) (getD domains q 0))))
+  where
+    own : (b : Bool) → (not b || b) ≡ true
+    own true = refl
+    own false = refl

@@ -2,6 +2,7 @@
 ghost use mathlib.Core.Path.{_≡_};
 ghost use mathlib.Core.Bool.{not};
 ghost use Prim.Native.Nat.{_<_, _≤_};
+ghost use lib.Dec.{eqb};
 ghost use lib.ListN.{getD};
 ghost use Rattle.laws.specs.Every.{every};
 ghost use Rattle.machine.specs.State.{agreeBy, badBoard};
@@ -22,8 +23,11 @@ pub fn is_bad_board(board: Board) -> bool
     }
     let inner = board.inner;
     let outer = board.outer;
-    // most boards are one outer domain, and nothing can clash there
+    // most boards are one outer domain, and nothing can clash there; nor where inner and outer domains are the same
     if is_one_domain(outer) {
+        return false;
+    }
+    if are_same(inner, outer) {
         return false;
     }
     domains_clash(&inner, &outer, board.count)
@@ -35,6 +39,13 @@ pub fn is_one_domain(domains: [u8; 8]) -> bool
 {
     let first = domains[0] as u64;
     number_of(domains) == first * 0x0101010101010101
+}
+
+// Whether each has the same inner and outer domain, told by their numbers.
+fn are_same(inner: [u8; 8], outer: [u8; 8]) -> bool
+    ensures { λ r. ⌜ r ≡ eqb (numberOf inner) (numberOf outer) ⌝ }
+{
+    number_of(inner) == number_of(outer)
 }
 
 // The domains as the bytes of a number, that of processor 0 lowest.
