@@ -1,5 +1,5 @@
 -- What is known of a word's scope from an earlier step of a list that had the same word.
-use mathlib.Core.Bool.{true, false, Bool, not, _&&_}
+use mathlib.Core.Bool.{Bool, true, false, not, _&&_}
 use mathlib.Core.Path.{_≡_}
 use lib.Dec.{eqb}
 use Rattle.machine.specs.Access.{accessOf}
@@ -8,7 +8,9 @@ use Rattle.machine.specs.declared.operation.Decoded.the-variants as decoded
 use Rattle.machine.specs.declared.operation.Operation.{Operation}
 use Rattle.machine.specs.declared.processor.State.{State}
 use Rattle.machine.specs.declared.scope.Access.the-variants as access
+use Rattle.machine.specs.declared.scope.Regime.the-variants.{EL10}
 use Rattle.machine.specs.declared.scope.Scope.{Scope}
+use Rattle.machine.specs.declared.scope.Security.the-variants.{Secure}
 use Rattle.machine.specs.declared.work.Work.{Work}
 use Rattle.works.specs.declared.held.Held.{Held}
 
@@ -23,6 +25,13 @@ scopeIn w = record {
   asid = w .one;
   last = w .leaves;
   nxs = w .nxs;
+}
+
+-- nothing is known
+abbrev pub nothingHeld : Held
+nothingHeld = record {
+  known = false;
+  scope = record { regime = EL10; security = Secure; vmid = 0; stage2 = false; reached = 0; asid = false; last = false; nxs = false };
 }
 
 -- what the work of an earlier step tells, where its word is the same; no work has granule 0

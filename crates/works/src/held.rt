@@ -1,7 +1,6 @@
 // What is known of a word's scope from an earlier step: a list often has one word in many steps, and a state makes the same of it each time.
-ghost use mathlib.Core.Bool.{false};
 ghost use mathlib.Core.Path.{_≡_};
-ghost use Rattle.works.specs.Held.{heldIn};
+ghost use Rattle.works.specs.Held.{nothingHeld, heldIn};
 use machine::Regime;
 use machine::Scope;
 use machine::Security;
@@ -14,7 +13,7 @@ pub struct Held {
 }
 
 pub fn nothing_held() -> Held
-    ensures { λ r. ⌜ r .known ≡ false ⌝ }
+    ensures { λ r. ⌜ r ≡ nothingHeld ⌝ }
 {
     let scope = Scope {
         regime: Regime::EL10,
