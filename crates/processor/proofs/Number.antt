@@ -1,4 +1,4 @@
--- Bytes as one number: how large it is, and when they are all one byte.
+-- Bytes as one number: how large it is, that no others have it, and when they are all one byte.
 use Prim.Native.Nat.{ℕ, zero, suc, _+_, _*_, _-_, _^_, _<_, _≤_}
 use mathlib.Core.Bool.{true}
 use mathlib.Core.List.{List, [], _∷_}

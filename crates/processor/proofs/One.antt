@@ -1,4 +1,4 @@
--- Eight processors that are one domain: any two are in the same, and no two clash where it is the outer; nor where inner and outer domains are the same.
+-- Boards on which no two processors clash: those of one outer domain, and those whose inner and outer domains are the same.
 use Prim.Native.Nat.{ℕ, _≤_, _<_}
 use mathlib.Core.Bool.{Bool, true, false, not, _||_}
 use mathlib.Core.List.{List}
@@ -13,7 +13,7 @@ use Rattle.laws.specs.Every.{every}
 use Rattle.machine.specs.State.{agreeBy}
 use Rattle.processor.specs.Domains.{isFirst}
 
--- any two of them are in the same
+-- any two processors of one domain are in the same
 pub one-same : (domains : List ℕ) → every (isFirst domains) 8 ≡ true → (p q : ℕ) → p < 8 → q < 8 → eqb (getD domains p 0) (getD domains q 0) ≡ true
 one-same domains h p q l m = eq-eqb (getD domains p 0) (getD domains q 0) (first p l ∙ sym (first q m))
   where
@@ -29,7 +29,7 @@ one-agrees inner outer n most h = each (λ (p : ℕ). every (agreeBy inner outer
         or-right (not (eqb (getD inner p 0) (getD inner q 0))) (eqb (getD outer p 0) (getD outer q 0))
         (one-same outer h p q (omega arith) (omega arith))
 
--- nor do they where inner and outer domains are the same
+-- nor do any where inner and outer domains are the same
 pub same-agrees : (domains : List ℕ) (n : ℕ) → every (λ p. every (agreeBy domains domains p) n) n ≡ true
 same-agrees domains n = each (λ (p : ℕ). every (agreeBy domains domains p) n) n (λ (p : ℕ) (l : p < n). each (agreeBy domains domains p) n (λ (q : ℕ) (m : q < n). own (eqb (getD domains p 0) (getD domains q 0))))
   where

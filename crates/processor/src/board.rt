@@ -33,7 +33,7 @@ pub fn is_bad_board(board: Board) -> bool
     domains_clash(&inner, &outer, board.count)
 }
 
-// Whether all eight are in the domain of the first: as one number of eight bytes, which is one load and one compare.
+// Whether all eight are in the domain of the first: as one number of eight bytes that is one load, one product and one compare.
 pub fn is_one_domain(domains: [u8; 8]) -> bool
     ensures { λ r. ⌜ r ≡ every (isFirst domains) 8 ⌝ }
 {

@@ -94,8 +94,8 @@ pub struct BoardRecord {
     pub outer: [u8; 8],
 }
 
-// The flags come first and the domains last: a caller copies the record sixteen bytes at a time, and what is loaded here at once then lies in one such
-// piece. A load across two of them would wait for both.
+// The flags come first and the domains last: a caller copies the record sixteen bytes at a time, and its last sixteen by themselves, so that what is loaded
+// here at once lies in one such piece. A load across two of them would wait for both.
 #[repr(C)]
 pub struct StateRecord {
     pub present: PresentRecord,

@@ -45,7 +45,7 @@ fn only(own: u8) -> u64
     0
 }
 
-// Those in the own domain: most boards are one domain, and it has all eight.
+// Those in the own domain: most boards are one domain, and it has all eight. A number past the last has domain 0, whatever the others have.
 fn mates(domains: [u8; 8], own: u8) -> u64
     ensures { λ r. ⌜ (r ≡ maskFrom (λ (p : ℕ). eqb (getD domains p 0) (getD domains own 0)) 0 8) × (r < 256) ⌝ }
 {

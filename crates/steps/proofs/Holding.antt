@@ -1,6 +1,6 @@
 -- What the work of a step tells of the next step that has the same word.
 use Prim.Native.Nat.{ℕ}
-use mathlib.Core.Bool.{true, not}
+use mathlib.Core.Bool.{not}
 use mathlib.Core.Path.{_≡_, refl, sym, ap, subst, _∙_}
 use lib.Dec.{eqb}
 use borrow.Author.Tests.{eqb-true, eq-eqb, not-true}

@@ -34,7 +34,7 @@ nothingHeld = record {
   scope = record { regime = EL10; security = Secure; vmid = 0; stage2 = false; reached = 0; asid = false; last = false; nxs = false };
 }
 
--- what the work of an earlier step tells, where its word is the same; no work has granule 0
+-- what the work of an earlier step tells, where its word is the same; what stands for no work has granule 0
 abbrev pub heldIn : Bool → Work → Held
 heldIn same w = record { known = same && not (eqb (w .granule) 0); scope = scopeIn w }
 

@@ -31,7 +31,7 @@ pub fn nothing_held() -> Held
     }
 }
 
-// What a work that came of the same word tells.
+// What a work tells, if it came of the same word.
 pub fn held_in(same: bool, work: Work) -> Held
     ensures { λ r. ⌜ r ≡ heldIn same work ⌝ }
 {
