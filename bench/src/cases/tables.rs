@@ -9,6 +9,7 @@ use crate::time::keep;
 const SIZES: [usize; 4] = [16, 128, 1024, 2048];
 
 const TWO_DOMAINS: [u8; 8] = [0, 0, 0, 0, 1, 1, 1, 1];
+const FOUR_DOMAINS: [u8; 8] = [0, 0, 1, 1, 2, 2, 3, 3];
 
 /// How a table is filled.
 #[derive(Clone, Copy, PartialEq, Eq)]
@@ -72,11 +73,11 @@ impl Execute {
         Execute { what: filled.name(), kept, table, state: state(), word: RVAAE1IS }
     }
 
-    /// Processors of two inner domains, in one outer domain or in two: an execution has to tell those that it reaches.
-    fn in_domains(what: &'static str, outer: [u8; 8]) -> Execute {
+    /// Processors of several domains: an execution has to tell those that it reaches.
+    fn in_domains(what: &'static str, inner: [u8; 8], outer: [u8; 8]) -> Execute {
         let mut execute = Execute::new(Filled::ManyGuests, 16);
         execute.what = what;
-        execute.state.board.inner = TWO_DOMAINS;
+        execute.state.board.inner = inner;
         execute.state.board.outer = outer;
         execute
     }
@@ -340,8 +341,9 @@ pub fn all() -> Vec<Box<dyn Case>> {
             cases.push(Box::new(Execute::new(filled, slots)));
         }
     }
-    cases.push(Box::new(Execute::in_domains("many guests, two inner domains", [0; 8])));
-    cases.push(Box::new(Execute::in_domains("many guests, two inner and outer domains", TWO_DOMAINS)));
+    cases.push(Box::new(Execute::in_domains("many guests, two inner domains", TWO_DOMAINS, [0; 8])));
+    cases.push(Box::new(Execute::in_domains("many guests, two inner and outer domains", TWO_DOMAINS, TWO_DOMAINS)));
+    cases.push(Box::new(Execute::in_domains("many guests, four inner and two outer domains", FOUR_DOMAINS, TWO_DOMAINS)));
     cases.push(Box::new(Execute::trapped()));
     let list = [RVAAE1IS, TWO_MEBIBYTES, 0].repeat(16);
     cases.push(Box::new(Run { table: Filled::ManyGuests.table(2048), list, state: state() }));
