@@ -10,6 +10,10 @@ const SIZES: [usize; 4] = [16, 128, 1024, 2048];
 
 const TWO_DOMAINS: [u8; 8] = [0, 0, 0, 0, 1, 1, 1, 1];
 const FOUR_DOMAINS: [u8; 8] = [0, 0, 1, 1, 2, 2, 3, 3];
+const EIGHT_DOMAINS: [u8; 8] = [0, 1, 2, 3, 4, 5, 6, 7];
+/// Four inner domains in two outer ones again, the processors of a domain apart.
+const FOUR_IN_TURN: [u8; 8] = [0, 1, 2, 3, 0, 1, 2, 3];
+const TWO_IN_TURN: [u8; 8] = [0, 0, 1, 1, 0, 0, 1, 1];
 
 /// How a table is filled.
 #[derive(Clone, Copy, PartialEq, Eq)]
@@ -344,6 +348,8 @@ pub fn all() -> Vec<Box<dyn Case>> {
     cases.push(Box::new(Execute::in_domains("many guests, two inner domains", TWO_DOMAINS, [0; 8])));
     cases.push(Box::new(Execute::in_domains("many guests, two inner and outer domains", TWO_DOMAINS, TWO_DOMAINS)));
     cases.push(Box::new(Execute::in_domains("many guests, four inner and two outer domains", FOUR_DOMAINS, TWO_DOMAINS)));
+    cases.push(Box::new(Execute::in_domains("many guests, four inner and two outer domains in turn", FOUR_IN_TURN, TWO_IN_TURN)));
+    cases.push(Box::new(Execute::in_domains("many guests, eight inner and two outer domains", EIGHT_DOMAINS, TWO_DOMAINS)));
     cases.push(Box::new(Execute::trapped()));
     let list = [RVAAE1IS, TWO_MEBIBYTES, 0].repeat(16);
     cases.push(Box::new(Run { table: Filled::ManyGuests.table(2048), list, state: state() }));

@@ -1,7 +1,7 @@
 -- What C gives is taken number for number, and what C gets it can give again.
 use Prim.Native.Nat.{ℕ, zero, suc, _%_, _^_, _<_, _≤_}
 use mathlib.Core.Bool.{Bool, true, false, cond, _&&_}
-use mathlib.Core.List.{List, [], _∷_}
+use mathlib.Core.List.{[], _∷_}
 use mathlib.Core.Path.{_≡_, refl, sym, ap, _∙_}
 use native.Mathlib.Nat.{mod-eq-of-lt}
 use native.Mathlib.Omega.{arith}
@@ -13,7 +13,7 @@ use Rattle.machine.proofs.Spans.{by-level, span-tg-most, span-level}
 use Rattle.machine.proofs.Tags.{regime-back, regime-there, regime-low, security-back, security-there, security-low, flag-back, flag-there, flag-low, company-same, entry-same, legal}
 use Rattle.machine.specs.Entry.{isLegal}
 use Rattle.machine.specs.Span.{isLevel, heightOf}
-use Rattle.machine.specs.Tag.{flag, regimeNumber, securityNumber, regimeAt, securityAt, Sized}
+use Rattle.machine.specs.Tag.{flag, regimeNumber, securityNumber, Sized}
 use Rattle.machine.specs.declared.entry.Company.{Company}
 use Rattle.machine.specs.declared.entry.Entry.{Entry}
 use Rattle.machine.specs.declared.operation.Name.{Name}
@@ -27,7 +27,7 @@ use Rattle.received.specs.Operations.{nameAt, shareAt, operationFits, operation
 use Rattle.received.specs.declared.entry.CompanyRecord.{CompanyRecord}
 use Rattle.received.specs.declared.entry.EntryRecord.{EntryRecord}
 use Rattle.received.specs.declared.operation.OperationRecord.{OperationRecord}
-use Rattle.returned.specs.Words.{levelWord, entryWords, nameNumber, shareNumber, operationWords}
+use Rattle.returned.specs.Words.{levelWord, entryWords, nameNumber, shareNumber}
 
 -- names, shareabilities and levels, both ways
 pub name-back : (n : Name) → nameAt (nameNumber n) ≡ n
@@ -154,9 +154,9 @@ company-taken c h5 =
     company-record (regime-there (c .regime) (ltb-true (c .regime) 4 (and-0 r s h2))) (security-there (c .security) (ltb-true (c .security) 4 (and-1 r s h2))) (under (c .vmid) 65536 (and-1 (r && s) v h3))
     (flag-taken (c .stage2) (and-1 (r && s && v) t h4)) (flag-taken (c .ns) (and-1 (r && s && v && t) n h5))
 
-pub entry-taken : (e : EntryRecord) → entryFits e ≡ true → isLevel (levelIn (e .level)) ≡ true → recordOf (entryIn e) ≡ e
+pub entry-taken : (e : EntryRecord) → entryFits e ≡ true → recordOf (entryIn e) ≡ e
 unfolding entryIn entryFits
-entry-taken e h l =
+entry-taken e whole =
     let c = companyFits (e .company) in
     let p = ltb (e .processor) 8 in
     let a = ltb (e .asid) 65536 in
@@ -167,13 +167,15 @@ entry-taken e h l =
     let x = isFlag (e .xs) in
     let numbers = p && a && g in
     let flags = b && w && f && x in
+    let h = and-0 (c && numbers && flags) (isLevel (levelIn (e .level))) whole in
+    let l = and-1 (c && numbers && flags) (isLevel (levelIn (e .level))) whole in
     let cn = and-0 (c && numbers) flags h in
     let hn = and-1 c numbers cn in
     let hf = and-1 (c && numbers) flags h in
     let pa = and-0 (p && a) g hn in
     let bwf = and-0 (b && w && f) x hf in
     let bw = and-0 (b && w) f bwf in
-    entry-record (e .base) (ap (λ (y : Bool). cond y (e .processor % 256) 255) h ∙ byte (e .processor) 8 (omega arith) (and-0 p a pa)) (company-taken (e .company) (and-0 c numbers cn))
+    entry-record (e .base) (ap (λ (y : Bool). cond y (e .processor % 256) 255) whole ∙ byte (e .processor) 8 (omega arith) (and-0 p a pa)) (company-taken (e .company) (and-0 c numbers cn))
     (under (e .asid) 65536 (and-1 p a pa)) (flag-taken (e .global) (and-0 b w bw)) (flag-taken (e .wide) (and-1 b w bw)) (byte (e .granule) 4 (omega arith) (and-1 (p && a) g hn))
     (level-there (e .level) l) (flag-taken (e .leaf) (and-1 (b && w) f bwf)) (flag-taken (e .xs) (and-1 (b && w && f) x hf))
 
@@ -185,9 +187,9 @@ company-fits : (c : Company) → c .vmid < 2 ^ 16 → companyFits (companyOf c) 
 company-fits c v =
     simp (fits (regime-low (c .regime)), fits (security-low (c .security)), fits v, fits (flag-low (c .stage2)), fits (flag-low (c .ns)))
 
-entry-fits : (e : Entry) → Sized e → e .processor ≤ 7 → e .granule ≤ 3 → entryFits (recordOf e) ≡ true
+entry-fits : (e : Entry) → Sized e → e .processor ≤ 7 → e .granule ≤ 3 → isLevel (e .level) ≡ true → entryFits (recordOf e) ≡ true
 unfolding entryFits
-entry-fits e z p g =
+entry-fits e z p g l =
     let n : e .processor < 8 = omega arith in
     let m : e .granule < 4 = omega arith in
     simp (
@@ -199,6 +201,8 @@ entry-fits e z p g =
       fits (flag-low (e .wide)),
       fits (flag-low (e .leaf)),
       fits (flag-low (e .xs)),
+      level-back (e .level) l,
+      l,
     )
 
 company-again : (c : Company) → c .vmid < 2 ^ 16 → companyIn (companyOf c) ≡ c
@@ -211,11 +215,12 @@ unfolding entryIn
 entry-again e z h =
     let k = legal e h in
     let g : e .granule ≤ 3 = span-tg-most (e .wide) (e .granule) (e .level) (k .span) in
+    let l : isLevel (e .level) ≡ true = span-level (e .wide) (e .granule) (e .level) (k .span) in
     let low : e .processor < 256 = omega (arith, k .processor) in
     let small : e .granule < 256 = omega arith in
-    let processor = ap (λ (y : Bool). cond y (e .processor % 256) 255) (entry-fits e z (k .processor) g) ∙ mod-eq-of-lt low in
+    let processor = ap (λ (y : Bool). cond y (e .processor % 256) 255) (entry-fits e z (k .processor) g l) ∙ mod-eq-of-lt low in
     entry-same (e .base) processor (company-again (e .company) (z .0)) (mod-eq-of-lt (z .1)) (flag-back (e .global)) (flag-back (e .wide)) (mod-eq-of-lt small)
-    (level-back (e .level) (span-level (e .wide) (e .granule) (e .level) (k .span))) (flag-back (e .leaf)) (flag-back (e .xs))
+    (level-back (e .level) l) (flag-back (e .leaf)) (flag-back (e .xs))
 
 -- an operation's numbers are taken as they are, and an operation that C got is that operation when C gives it again
 abbrev pub operationOf : Operation → OperationRecord

@@ -1,6 +1,6 @@
 // The board: how many processors there are, and whether their domains agree.
 ghost use mathlib.Core.Path.{_≡_};
-ghost use mathlib.Core.Bool.{not};
+ghost use mathlib.Core.Bool.{true, not};
 ghost use Prim.Native.Nat.{_<_, _≤_};
 ghost use lib.Dec.{eqb};
 ghost use lib.ListN.{getD};
@@ -66,35 +66,30 @@ fn domains_clash(inner: &[u8; 8], outer: &[u8; 8], count: u8) -> bool
     requires { ⌜ count ≤ 8 ⌝ }
     ensures { λ r. ⌜ r ≡ not (every (λ p. every (agreeBy (now (inner .entry)) (now (outer .entry)) p) p) count) ⌝ }
 {
-    let mut good = true;
     let mut p = 0;
     while p < count {
-        good = agrees_below(inner, outer, p) & good;
+        if clashes_below(inner, outer, p) {
+            return true;
+        }
         p += 1;
     }
-    !good
+    false
 }
 
-fn agrees_below(inner: &[u8; 8], outer: &[u8; 8], p: u8) -> bool
-    requires { ⌜ p < 8 ⌝ }
-    ensures { λ r. ⌜ r ≡ every (agreeBy (now (inner .entry)) (now (outer .entry)) p) p ⌝ }
-{
-    let mut good = true;
-    let mut q = 0;
-    while q < p {
-        good = agrees(inner, outer, p, q) & good;
-        q += 1;
-    }
-    good
-}
-
-fn agrees(inner: &[u8; 8], outer: &[u8; 8], p: u8, q: u8) -> bool
-    requires { ⌜ (p < 8) × (q < 8) ⌝ }
-    ensures { λ r. ⌜ r ≡ agreeBy (now (inner .entry)) (now (outer .entry)) p q ⌝ }
+// Where no two below it clash, a processor clashes with all of those in its inner domain or with none: the first that is found tells.
+fn clashes_below(inner: &[u8; 8], outer: &[u8; 8], p: u8) -> bool
+    requires { ⌜ (p < 8) × (every (λ q. every (agreeBy (now inner) (now outer) q) q) p ≡ true) ⌝ }
+    ensures { λ r. ⌜ r ≡ not (every (agreeBy (now (inner .entry)) (now (outer .entry)) p) p) ⌝ }
 {
     let i = p as usize;
-    let j = q as usize;
-    (inner[i] != inner[j]) | (outer[i] == outer[j])
+    let mut q = i;
+    while 0 < q {
+        q -= 1;
+        if inner[q] == inner[i] {
+            return outer[q] != outer[i];
+        }
+    }
+    false
 }
 
 // A number past the last has domain 0, so that any number gets an answer.

@@ -9,7 +9,10 @@ use machine::State;
 pub fn is_bad(state: State) -> bool
     ensures { λ r. ⌜ r ≡ badState state ⌝ }
 {
-    is_bad_fields(state) | is_bad_board(state.board)
+    if is_bad_fields(state) {
+        return true;
+    }
+    is_bad_board(state.board)
 }
 
 fn is_bad_fields(state: State) -> bool

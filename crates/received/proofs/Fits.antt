@@ -6,8 +6,9 @@ use native.Mathlib.Nat.{mod-eq-of-lt}
 use lib.Dec.{eqb, ltb}
 use borrow.Author.Tests.{ltb-true}
 use Rattle.laws.proofs.Truth.{and-0, and-1}
+use Rattle.machine.specs.Span.{isLevel}
 use Rattle.received.specs.Entries.{companyFits, entryFits}
-use Rattle.received.specs.Numbers.{isFlag, flagIn, isRegime}
+use Rattle.received.specs.Numbers.{isFlag, flagIn, isRegime, levelIn}
 use Rattle.received.specs.Operations.{operationFits}
 use Rattle.received.specs.declared.entry.EntryRecord.{EntryRecord}
 use Rattle.received.specs.declared.operation.OperationRecord.{OperationRecord}
@@ -29,13 +30,14 @@ pub record EntryFit (e : EntryRecord) : Type 0 where
 
 pub entry-fit : (e : EntryRecord) → entryFits e ≡ true → EntryFit e
 unfolding entryFits
-entry-fit e h =
+entry-fit e whole =
     let c = companyFits (e .company) in
     let numbers = ltb (e .processor) 8 && ltb (e .asid) 65536 && ltb (e .granule) 4 in
     let g = isFlag (e .global) in
     let w = isFlag (e .wide) in
     let l = isFlag (e .leaf) in
     let x = isFlag (e .xs) in
+    let h = and-0 (c && numbers && (g && w && l && x)) (isLevel (levelIn (e .level))) whole in
     let flags = and-1 (c && numbers) (g && w && l && x) h in
     let three = and-0 (g && w && l) x flags in
     let two = and-0 (g && w) l three in

@@ -2,6 +2,7 @@
 use Prim.Native.Nat.{ℕ, _%_}
 use mathlib.Core.Bool.{Bool, cond, _&&_}
 use lib.Dec.{ltb}
+use Rattle.machine.specs.Span.{isLevel}
 use Rattle.machine.specs.Tag.{regimeAt, securityAt}
 use Rattle.machine.specs.declared.entry.Company.{Company}
 use Rattle.machine.specs.declared.entry.Entry.{Entry}
@@ -22,12 +23,13 @@ companyIn c = record {
   ns = flagIn (c .ns);
 }
 
--- the same of an entry: "processor (0 to 7)", a granule as TG is given, of two bits; its level is judged by itself
+-- the same of an entry: "processor (0 to 7)", a granule as TG is given, of two bits, a level
 unfoldable pub entryFits : EntryRecord → Bool
 entryFits e =
     companyFits (e .company)
     && (ltb (e .processor) 8 && ltb (e .asid) 65536 && ltb (e .granule) 4)
     && (isFlag (e .global) && isFlag (e .wide) && isFlag (e .leaf) && isFlag (e .xs))
+    && isLevel (levelIn (e .level))
 
 -- where a field does not fit, the processor counts as 255, which is none
 abbrev pub processorIn : EntryRecord → ℕ

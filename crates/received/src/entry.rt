@@ -2,6 +2,7 @@
 ghost use mathlib.Core.Bool.{true};
 ghost use mathlib.Core.Path.{_≡_};
 ghost use Rattle.received.specs.Entries.{companyFits, companyIn, entryFits, entryIn};
+use crate::number::level_fits;
 use crate::number::level_in;
 use machine::Company;
 use machine::Entry;
@@ -61,7 +62,7 @@ pub fn entry_fits(entry: EntryRecord) -> bool
 {
     let numbers = (entry.processor < 8) & (entry.asid < 65536) & (entry.granule < 4);
     let flags = (entry.global < 2) & (entry.wide < 2) & (entry.leaf < 2) & (entry.xs < 2);
-    company_fits(entry.company) & numbers & flags
+    company_fits(entry.company) & numbers & flags & level_fits(entry.level)
 }
 
 // A flag that fits is its lowest bit.

@@ -93,6 +93,10 @@ entry-legal base tag h = legal (entryAt base tag) (reads-written base tag h .1)
 pub no-layout : (base tag : ℕ) → (tag % 2 ^ 4 ≡ layout → ⊥) → isEntry base tag ≡ false
 no-layout base tag n = not-so (isEntry base tag) (λ (h : isEntry base tag ≡ true). n (entry-layout base tag h))
 
+pub no-room : (base tag : ℕ) → (tag / 2 ^ 54 ≡ 0 → ⊥) → isEntry base tag ≡ false
+no-room base tag n =
+    not-so (isEntry base tag) (λ (h : isEntry base tag ≡ true). n (let low : tag < 2 ^ 54 = entry-low base tag h in omega (arith, low)))
+
 pub no-span : (base tag : ℕ) → 54 < spanOf (entryAt 0 tag) → isEntry base tag ≡ false
 unfolding entryAt
 no-span base tag n =
@@ -163,6 +167,14 @@ rest-empty base tag n =
       k .reach,
     ) in
     clash all n)
+
+pub end-empty : (base tag : ℕ) → endOf tag ≡ 0 → isEntry base tag ≡ false
+unfolding isRest
+end-empty base tag z = rest-empty base tag (go (ltb tag (2 ^ 54)) refl)
+  where
+    go : (a : Bool) → ltb tag (2 ^ 54) ≡ a → isRest base tag ≡ false
+    go true e = simp (e, end-none tag z)
+    go false e = simp e
 
 -- one that keeps them, with the layout number, is an entry exactly if an entry can have its company
 pub rest-company : (base tag : ℕ) → tag % 2 ^ 4 ≡ layout → isRest base tag ≡ true → isCompany (companyAt tag) ≡ isEntry base tag

@@ -7,7 +7,9 @@ ghost use Rattle.machine.specs.Entry.{isCompany, isPlaced, spanOf};
 ghost use Rattle.machine.specs.Tag.{companyAt, entryAt, isEntry};
 ghost use Rattle.tags.specs.Ends.{endOf};
 ghost use Rattle.tags.specs.Rest.{isReach, isRest};
-use crate::end::end_at;
+use crate::end::end_in;
+use crate::end::has_span;
+use crate::end::place_at;
 use crate::number::level_at;
 use crate::number::regime_at;
 use crate::number::security_at;
@@ -113,7 +115,14 @@ pub fn is_entry(base: u64, tag: u64) -> bool
     if tag % 16 != 1 {
         return false;
     }
-    let end = end_at(tag);
+    if tag / 0x40000000000000 != 0 {
+        return false;
+    }
+    let place = place_at(tag);
+    if !has_span(place) {
+        return false;
+    }
+    let end = end_in(place);
     if !is_rest(base, tag, end) {
         return false;
     }

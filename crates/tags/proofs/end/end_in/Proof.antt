@@ -1,10 +1,11 @@
 -- `tags::end::end_in` meets its contract.
 use Prim.Native.Nat.{ℕ}
-use mathlib.Core.Bool.{Bool, true, false, _||_}
+use mathlib.Core.Bool.{Bool, true, false, not, _||_}
 use mathlib.Core.Path.{_≡_, refl, sym, ap, _∙_}
 use lib.Dec.{eqb}
-use borrow.Author.Tests.{eqb-true, ne-eqb}
+use borrow.Author.Tests.{ne-eqb}
 use Rattle.laws.proofs.Every.{at}
+use Rattle.laws.proofs.Truth.{clash}
 use Rattle.laws.specs.Every.{every}
 use Rattle.machine.specs.Span.{exponentAt}
 use Rattle.tags.proofs.end.end_in.Statement.{statement}
@@ -13,7 +14,7 @@ use Rattle.tags.specs.Ends.{endAt, endIn}
 
 -- the places that have an arm; at every other there is no span
 abbrev isArm : ℕ → Bool
-isArm x = eqb x 16 || eqb x 17 || eqb x 18 || eqb x 19 || eqb x 20 || eqb x 21 || eqb x 22 || eqb x 23 || eqb x 24 || eqb x 25 || eqb x 27 || eqb x 32 || eqb x 33 || eqb x 34 || eqb x 35 || eqb x 36 || eqb x 37 || eqb x 38 || eqb x 39 || eqb x 41 || eqb x 48 || eqb x 49 || eqb x 50 || eqb x 51 || eqb x 52 || eqb x 53 || eqb x 55
+isArm x = eqb x 0 || eqb x 16 || eqb x 17 || eqb x 18 || eqb x 19 || eqb x 20 || eqb x 21 || eqb x 22 || eqb x 23 || eqb x 24 || eqb x 25 || eqb x 27 || eqb x 32 || eqb x 33 || eqb x 34 || eqb x 35 || eqb x 36 || eqb x 37 || eqb x 38 || eqb x 39 || eqb x 41 || eqb x 48 || eqb x 49 || eqb x 50 || eqb x 51 || eqb x 52 || eqb x 53 || eqb x 55 || eqb x 63
 
 abbrev isNone : ℕ → Bool
 isNone x = isArm x || eqb (endIn x) 0
@@ -22,9 +23,21 @@ none : every isNone 64 ≡ true
 unfolding every endIn endAt exponentAt
 none = refl
 
-returns : tie.Need-returns
+-- nor is there at the first and the last
+no-first : eqb (endIn 0) 0 ≡ true
+unfolding endIn
+no-first = refl
+
+no-last : eqb (endIn 63) 0 ≡ true
 unfolding endIn endAt exponentAt
-returns c = rw (c .match .keys1) refl
+no-last = refl
+
+-- a place without a span is not asked for
+unasked : (x y : ℕ) → x ≡ y → eqb (endIn y) 0 ≡ true → not (eqb (endIn x) 0) ≡ true → ⊥
+unasked x y e z some = clash some (ap (λ (k : ℕ). not (eqb (endIn k) 0)) e ∙ ap not z)
+
+returns : tie.Need-returns
+returns c = absurd (unasked (c .before .args .place) 0 (c .match .keys1) no-first (c .before .pre .1))
 
 returns-2 : tie.Need-returns-2
 unfolding endIn endAt exponentAt
@@ -131,39 +144,49 @@ unfolding endIn endAt exponentAt
 returns-27 c = rw (c .match .keys27) refl
 
 returns-28 : tie.Need-returns-28
-returns-28 c =
+unfolding endIn endAt exponentAt
+returns-28 c = rw (c .match .keys28) refl
+
+returns-29 : tie.Need-returns-29
+returns-29 c = absurd (unasked (c .before .args .place) 63 (c .match .keys29) no-last (c .before .pre .1))
+
+returns-30 : tie.Need-returns-30
+returns-30 c =
     let x = c .before .args .place in
     let other : isArm x ≡ false =
     simp (
-      ne-eqb x 16 (c .match .rest .0 .0 .0 .0 .0 .0 .0 .0 .0 .0 .0 .0 .0 .0 .0 .0 .0 .0 .0 .0 .0 .0 .0 .0 .0 .0 .1),
-      ne-eqb x 17 (c .match .rest .0 .0 .0 .0 .0 .0 .0 .0 .0 .0 .0 .0 .0 .0 .0 .0 .0 .0 .0 .0 .0 .0 .0 .0 .0 .1),
-      ne-eqb x 18 (c .match .rest .0 .0 .0 .0 .0 .0 .0 .0 .0 .0 .0 .0 .0 .0 .0 .0 .0 .0 .0 .0 .0 .0 .0 .0 .1),
-      ne-eqb x 19 (c .match .rest .0 .0 .0 .0 .0 .0 .0 .0 .0 .0 .0 .0 .0 .0 .0 .0 .0 .0 .0 .0 .0 .0 .0 .1),
-      ne-eqb x 20 (c .match .rest .0 .0 .0 .0 .0 .0 .0 .0 .0 .0 .0 .0 .0 .0 .0 .0 .0 .0 .0 .0 .0 .0 .1),
-      ne-eqb x 21 (c .match .rest .0 .0 .0 .0 .0 .0 .0 .0 .0 .0 .0 .0 .0 .0 .0 .0 .0 .0 .0 .0 .0 .1),
-      ne-eqb x 22 (c .match .rest .0 .0 .0 .0 .0 .0 .0 .0 .0 .0 .0 .0 .0 .0 .0 .0 .0 .0 .0 .0 .1),
-      ne-eqb x 23 (c .match .rest .0 .0 .0 .0 .0 .0 .0 .0 .0 .0 .0 .0 .0 .0 .0 .0 .0 .0 .0 .1),
-      ne-eqb x 24 (c .match .rest .0 .0 .0 .0 .0 .0 .0 .0 .0 .0 .0 .0 .0 .0 .0 .0 .0 .0 .1),
-      ne-eqb x 25 (c .match .rest .0 .0 .0 .0 .0 .0 .0 .0 .0 .0 .0 .0 .0 .0 .0 .0 .0 .1),
-      ne-eqb x 27 (c .match .rest .0 .0 .0 .0 .0 .0 .0 .0 .0 .0 .0 .0 .0 .0 .0 .0 .1),
-      ne-eqb x 32 (c .match .rest .0 .0 .0 .0 .0 .0 .0 .0 .0 .0 .0 .0 .0 .0 .0 .1),
-      ne-eqb x 33 (c .match .rest .0 .0 .0 .0 .0 .0 .0 .0 .0 .0 .0 .0 .0 .0 .1),
-      ne-eqb x 34 (c .match .rest .0 .0 .0 .0 .0 .0 .0 .0 .0 .0 .0 .0 .0 .1),
-      ne-eqb x 35 (c .match .rest .0 .0 .0 .0 .0 .0 .0 .0 .0 .0 .0 .0 .1),
-      ne-eqb x 36 (c .match .rest .0 .0 .0 .0 .0 .0 .0 .0 .0 .0 .0 .1),
-      ne-eqb x 37 (c .match .rest .0 .0 .0 .0 .0 .0 .0 .0 .0 .0 .1),
-      ne-eqb x 38 (c .match .rest .0 .0 .0 .0 .0 .0 .0 .0 .0 .1),
-      ne-eqb x 39 (c .match .rest .0 .0 .0 .0 .0 .0 .0 .0 .1),
-      ne-eqb x 41 (c .match .rest .0 .0 .0 .0 .0 .0 .0 .1),
-      ne-eqb x 48 (c .match .rest .0 .0 .0 .0 .0 .0 .1),
-      ne-eqb x 49 (c .match .rest .0 .0 .0 .0 .0 .1),
-      ne-eqb x 50 (c .match .rest .0 .0 .0 .0 .1),
-      ne-eqb x 51 (c .match .rest .0 .0 .0 .1),
-      ne-eqb x 52 (c .match .rest .0 .0 .1),
-      ne-eqb x 53 (c .match .rest .0 .1),
-      ne-eqb x 55 (c .match .rest .1),
+      ne-eqb x 0 (c .match .rest .0 .0 .0 .0 .0 .0 .0 .0 .0 .0 .0 .0 .0 .0 .0 .0 .0 .0 .0 .0 .0 .0 .0 .0 .0 .0 .0 .0 .1),
+      ne-eqb x 16 (c .match .rest .0 .0 .0 .0 .0 .0 .0 .0 .0 .0 .0 .0 .0 .0 .0 .0 .0 .0 .0 .0 .0 .0 .0 .0 .0 .0 .0 .1),
+      ne-eqb x 17 (c .match .rest .0 .0 .0 .0 .0 .0 .0 .0 .0 .0 .0 .0 .0 .0 .0 .0 .0 .0 .0 .0 .0 .0 .0 .0 .0 .0 .1),
+      ne-eqb x 18 (c .match .rest .0 .0 .0 .0 .0 .0 .0 .0 .0 .0 .0 .0 .0 .0 .0 .0 .0 .0 .0 .0 .0 .0 .0 .0 .0 .1),
+      ne-eqb x 19 (c .match .rest .0 .0 .0 .0 .0 .0 .0 .0 .0 .0 .0 .0 .0 .0 .0 .0 .0 .0 .0 .0 .0 .0 .0 .0 .1),
+      ne-eqb x 20 (c .match .rest .0 .0 .0 .0 .0 .0 .0 .0 .0 .0 .0 .0 .0 .0 .0 .0 .0 .0 .0 .0 .0 .0 .0 .1),
+      ne-eqb x 21 (c .match .rest .0 .0 .0 .0 .0 .0 .0 .0 .0 .0 .0 .0 .0 .0 .0 .0 .0 .0 .0 .0 .0 .0 .1),
+      ne-eqb x 22 (c .match .rest .0 .0 .0 .0 .0 .0 .0 .0 .0 .0 .0 .0 .0 .0 .0 .0 .0 .0 .0 .0 .0 .1),
+      ne-eqb x 23 (c .match .rest .0 .0 .0 .0 .0 .0 .0 .0 .0 .0 .0 .0 .0 .0 .0 .0 .0 .0 .0 .0 .1),
+      ne-eqb x 24 (c .match .rest .0 .0 .0 .0 .0 .0 .0 .0 .0 .0 .0 .0 .0 .0 .0 .0 .0 .0 .0 .1),
+      ne-eqb x 25 (c .match .rest .0 .0 .0 .0 .0 .0 .0 .0 .0 .0 .0 .0 .0 .0 .0 .0 .0 .0 .1),
+      ne-eqb x 27 (c .match .rest .0 .0 .0 .0 .0 .0 .0 .0 .0 .0 .0 .0 .0 .0 .0 .0 .0 .1),
+      ne-eqb x 32 (c .match .rest .0 .0 .0 .0 .0 .0 .0 .0 .0 .0 .0 .0 .0 .0 .0 .0 .1),
+      ne-eqb x 33 (c .match .rest .0 .0 .0 .0 .0 .0 .0 .0 .0 .0 .0 .0 .0 .0 .0 .1),
+      ne-eqb x 34 (c .match .rest .0 .0 .0 .0 .0 .0 .0 .0 .0 .0 .0 .0 .0 .0 .1),
+      ne-eqb x 35 (c .match .rest .0 .0 .0 .0 .0 .0 .0 .0 .0 .0 .0 .0 .0 .1),
+      ne-eqb x 36 (c .match .rest .0 .0 .0 .0 .0 .0 .0 .0 .0 .0 .0 .0 .1),
+      ne-eqb x 37 (c .match .rest .0 .0 .0 .0 .0 .0 .0 .0 .0 .0 .0 .1),
+      ne-eqb x 38 (c .match .rest .0 .0 .0 .0 .0 .0 .0 .0 .0 .0 .1),
+      ne-eqb x 39 (c .match .rest .0 .0 .0 .0 .0 .0 .0 .0 .0 .1),
+      ne-eqb x 41 (c .match .rest .0 .0 .0 .0 .0 .0 .0 .0 .1),
+      ne-eqb x 48 (c .match .rest .0 .0 .0 .0 .0 .0 .0 .1),
+      ne-eqb x 49 (c .match .rest .0 .0 .0 .0 .0 .0 .1),
+      ne-eqb x 50 (c .match .rest .0 .0 .0 .0 .0 .1),
+      ne-eqb x 51 (c .match .rest .0 .0 .0 .0 .1),
+      ne-eqb x 52 (c .match .rest .0 .0 .0 .1),
+      ne-eqb x 53 (c .match .rest .0 .0 .1),
+      ne-eqb x 55 (c .match .rest .0 .1),
+      ne-eqb x 63 (c .match .rest .1),
     ) in
-    sym (eqb-true (endIn x) 0 (ap (λ (b : Bool). b || eqb (endIn x) 0) (sym other) ∙ at isNone 64 none x (c .before .pre)))
+    let zero : eqb (endIn x) 0 ≡ true = ap (λ (b : Bool). b || eqb (endIn x) 0) (sym other) ∙ at isNone 64 none x (c .before .pre .0) in
+    absurd (unasked x x refl zero (c .before .pre .1))
 
 pub end-in-spec : {M : Type 1} → statement M
-end-in-spec = tie.close (tie.spec returns returns-2 returns-3 returns-4 returns-5 returns-6 returns-7 returns-8 returns-9 returns-10 returns-11 returns-12 returns-13 returns-14 returns-15 returns-16 returns-17 returns-18 returns-19 returns-20 returns-21 returns-22 returns-23 returns-24 returns-25 returns-26 returns-27 returns-28)
+end-in-spec = tie.close (tie.spec returns returns-2 returns-3 returns-4 returns-5 returns-6 returns-7 returns-8 returns-9 returns-10 returns-11 returns-12 returns-13 returns-14 returns-15 returns-16 returns-17 returns-18 returns-19 returns-20 returns-21 returns-22 returns-23 returns-24 returns-25 returns-26 returns-27 returns-28 returns-29 returns-30)
