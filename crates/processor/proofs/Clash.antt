@@ -1,5 +1,5 @@
 -- A processor against those below it, of which no two clash: it clashes with all of those in its inner domain or with none.
-use Prim.Native.Nat.{ℕ, _-_, _≤_, _<_}
+use Prim.Native.Nat.{ℕ, _+_, _-_, _≤_, _<_}
 use mathlib.Core.Bool.{Bool, true, false, not, _||_}
 use mathlib.Core.List.{List}
 use mathlib.Core.Path.{_≡_, refl, sym, ap, subst, _∙_}
@@ -62,3 +62,27 @@ mate-tells inner outer p q below h mate = alike (eqb (getD outer q 0) (getD oute
 
     back : every (agreeBy inner outer p) p ≡ true → eqb (getD outer q 0) (getD outer p 0) ≡ true
     back all = eq-eqb (getD outer q 0) (getD outer p 0) (sym (in-outer inner outer p q (at (agreeBy inner outer p) p all q below) (sym mate)))
+
+-- no processor below p is in an inner domain above high
+abbrev pub Under : List ℕ → ℕ → ℕ → Type 0
+Under inner high p = (k : ℕ) → k < p → getD inner k 0 ≤ high
+
+pub under-first : (inner : List ℕ) → Under inner (getD inner 0 0) 1
+under-first inner k l = let z : k ≡ 0 = omega arith in omega (arith, ap (λ (j : ℕ). getD inner j 0) z)
+
+pub under-more : (inner : List ℕ) (high next p : ℕ) → high ≤ next → getD inner p 0 ≤ next → Under inner high p → Under inner next (p + 1)
+under-more inner high next p up own below k l = go (ℕ-discrete k p)
+  where
+    go : Dec (k ≡ p) → getD inner k 0 ≤ next
+    go (yes e) = omega (arith, ap (λ (j : ℕ). getD inner j 0) e, own)
+    go (no d) = let h : getD inner k 0 ≤ high = below k (omega arith) in omega (arith, h, up)
+
+-- so a processor in one above it clashes with none of them
+pub above-agrees : (inner outer : List ℕ) (high p : ℕ) → Under inner high p → high < getD inner p 0 → every (agreeBy inner outer p) p ≡ true
+above-agrees inner outer high p below up =
+    apart-agrees inner outer p 0 (omega arith) (λ (k : ℕ) (z : 0 ≤ k) (l : k < p) (e : getD inner k 0 ≡ getD inner p 0). let h : getD inner k 0 ≤ high = below k l in omega (arith, h, e, up))
+
+-- the first processor has none below it
+pub first-agrees : (inner outer : List ℕ) → true ≡ every (λ q. every (agreeBy inner outer q) q) 1
+unfolding every
+first-agrees inner outer = refl

@@ -49,7 +49,7 @@ fn are_same(inner: [u8; 8], outer: [u8; 8]) -> bool
 }
 
 // The domains as the bytes of a number, that of processor 0 lowest.
-fn number_of(domains: [u8; 8]) -> u64
+pub fn number_of(domains: [u8; 8]) -> u64
     ensures { λ r. ⌜ r ≡ numberOf domains ⌝ }
 {
     let mut number = 0;
@@ -61,14 +61,19 @@ fn number_of(domains: [u8; 8]) -> u64
     number
 }
 
-// Whether two processors below the count are in one inner and different outer domains: each is held against those below it.
+// Whether two processors below the count are in one inner and different outer domains: each is held against those below it, unless its inner domain is
+// above all of theirs.
 fn domains_clash(inner: &[u8; 8], outer: &[u8; 8], count: u8) -> bool
-    requires { ⌜ count ≤ 8 ⌝ }
+    requires { ⌜ (1 ≤ count) × (count ≤ 8) ⌝ }
     ensures { λ r. ⌜ r ≡ not (every (λ p. every (agreeBy (now (inner .entry)) (now (outer .entry)) p) p) count) ⌝ }
 {
-    let mut p = 0;
+    let mut high = inner[0];
+    let mut p = 1;
     while p < count {
-        if clashes_below(inner, outer, p) {
+        let domain = inner[p as usize];
+        if high < domain {
+            high = domain;
+        } else if clashes_below(inner, outer, p) {
             return true;
         }
         p += 1;

@@ -7,6 +7,7 @@ mod unit;
 
 pub use board::domain_at;
 pub use board::is_one_domain;
+pub use board::number_of;
 pub use check::is_bad;
 pub use el2::el2_enabled;
 pub use el2::hcrx_live;

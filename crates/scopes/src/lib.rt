@@ -1,4 +1,5 @@
 // Scopes: what an operation that runs acts on, and which processors it reaches.
+mod bytes;
 mod reach;
 mod scope;
 

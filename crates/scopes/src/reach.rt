@@ -1,17 +1,19 @@
 // The processors that an operation reaches.
 ghost use mathlib.Core.Path.{_≡_};
-ghost use mathlib.Core.Bool.{cond};
-ghost use Prim.Native.Nat.{ℕ, _%_, _^_, _≤_, _<_};
+ghost use Prim.Native.Nat.{ℕ, _%_, _^_, _<_};
 ghost use lib.Dec.{eqb};
 ghost use lib.ListN.{getD};
 ghost use Rattle.laws.specs.Mask.{maskFrom};
 ghost use Rattle.machine.specs.Access.{reachesBy, reachedOf};
+use crate::bytes::gathered;
+use crate::bytes::zero_bytes;
 use machine::Board;
 use machine::Operation;
 use machine::Share;
 use machine::State;
 use processor::domain_at;
 use processor::is_one_domain;
+use processor::number_of;
 
 // A bit for each processor, number 0 lowest.
 pub fn reached_by(state: State, op: Operation) -> u64
@@ -54,27 +56,17 @@ fn mates(domains: [u8; 8], own: u8) -> u64
             return 255;
         }
     }
-    mates_one_by_one(domains, own)
+    mates_by_bytes(domains, own)
 }
 
-// The same on any board: the own domain is looked up once.
-fn mates_one_by_one(domains: [u8; 8], own: u8) -> u64
+// The same on any board: a byte that is the own domain is 0 in the difference of all eight to it.
+fn mates_by_bytes(domains: [u8; 8], own: u8) -> u64
     ensures { λ r. ⌜ (r ≡ maskFrom (λ (p : ℕ). eqb (getD domains p 0) (getD domains own 0)) 0 8) × (r < 256) ⌝ }
 {
-    let domain = domain_at(domains, own);
-    let mut mask = 0;
-    let mut p = 8;
-    while 0 < p {
-        p -= 1;
-        mask = one_if(domain_at(domains, p) == domain) + 2 * mask;
-    }
-    mask
-}
-
-fn one_if(bit: bool) -> u64
-    ensures { λ r. ⌜ (r ≡ cond bit 1 0) × (r ≤ 1) ⌝ }
-{
-    if bit { 1 } else { 0 }
+    let domain = domain_at(domains, own) as u64;
+    let difference = number_of(domains) ^ (domain * 0x0101010101010101);
+    let same = zero_bytes(difference);
+    gathered(same)
 }
 
 // The bits below the count.

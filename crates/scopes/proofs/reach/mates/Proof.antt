@@ -20,12 +20,12 @@ returns c =
     let own = c .before .before .if1 .taken in
     (sym (mask-all (λ (p : ℕ). eqb (getD (a .domains) p 0) (getD (a .domains) (a .own) 0)) 0 8 (λ (p : ℕ) (l : 0 ≤ p) (u : p < 0 + 8). one p (a .own) (omega arith) own)), lit< tt)
 
-mates-one-by-one-requires : tie.Need-mates-one-by-one-requires
-mates-one-by-one-requires c κs = search needs
+mates-by-bytes-requires : tie.Need-mates-by-bytes-requires
+mates-by-bytes-requires c κs = search needs
 
 returns-2 : tie.Need-returns-2
 returns-2 c = search needs
 
 pub mates-spec : {M : Type 1} → statement M
 mates-spec =
-    tie.close (tie.spec is-one-domain-requires returns mates-one-by-one-requires returns-2)
+    tie.close (tie.spec is-one-domain-requires returns mates-by-bytes-requires returns-2)
