@@ -30,6 +30,9 @@ pub fn is_bad_board(board: Board) -> bool
     if are_same(inner, outer) {
         return false;
     }
+    // copies of their own, which are made here: one that is lent is taken apart into its bytes where it is made
+    let inner = board.inner;
+    let outer = board.outer;
     domains_clash(&inner, &outer, board.count)
 }
 

@@ -59,8 +59,8 @@ domains-clash-requires c κs = search needs
 returns-6 : tie.Need-returns-6
 unfolding badBoard domainsAgree
 returns-6 c =
-    let b = c .before .before .before .before .before .before .before .before .before .before .before .before .before .before .before .args .board in
-    simp (c .domains-clash .ensures ∙ ap not (domains-half (b .inner) (b .outer) (b .count)), lt-leb _ _ (c .before .before .before .before .before .before .before .before .before .if3 .left), le-ltb _ _ (c .before .before .before .before .before .before .before .before .before .before .before .if2 .left), le-ltb _ _ (c .before .before .before .before .before .before .before .before .before .before .before .before .before .if1 .left))
+    let b = c .before .before .before .before .before .before .before .before .before .before .before .before .before .before .before .before .before .args .board in
+    simp (c .domains-clash .ensures ∙ ap not (domains-half (b .inner) (b .outer) (b .count)), lt-leb _ _ (c .before .before .before .before .before .before .before .before .before .before .before .if3 .left), le-ltb _ _ (c .before .before .before .before .before .before .before .before .before .before .before .before .before .if2 .left), le-ltb _ _ (c .before .before .before .before .before .before .before .before .before .before .before .before .before .before .before .if1 .left))
 
 pub is-bad-board-spec : {M : Type 1} → statement M
 is-bad-board-spec =
