@@ -10,7 +10,7 @@ pub const MEASURE: &str = "--measure";
 
 /// Where the loader puts code and stack, and what the branch predictors make of it, is chance, and settled anew in each process: a small
 /// call may take a fifth longer in most of them, on one side and not on the other. Among so many each side meets what suits it.
-const PROCESSES: usize = 60;
+const PROCESSES: usize = 100;
 
 /// What a measuring process does: it prints a line of times for each case.
 pub fn measure(cases: &mut [Box<dyn Case>]) {
