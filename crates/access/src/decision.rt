@@ -12,7 +12,7 @@ use traps::{is_barred, is_trapped, trap};
 use words::family_of;
 
 // What a family's rule comes to: the scope is made once for all of them.
-#[derive(Drop)]
+#[derive(Clone, Copy)]
 pub enum Way {
     Undefined,
     Trapped,
@@ -20,6 +20,7 @@ pub enum Way {
     Acts(Regime, bool, bool),
 }
 
+#[tactic(auto, unfolding(machine::specs::Access::access_of))]
 pub fn decide(state: State, op: Operation) -> Access
     ensures { result ≡ access_of state op }
 {
@@ -54,6 +55,7 @@ fn way_of(state: State, op: Operation) -> Way
     }
 }
 
+#[tactic(auto, unfolding(machine::specs::Access::access_e1))]
 fn way_e1(state: State, op: Operation) -> Way
     ensures { access_in state op result ≡ access_e1 state op }
 {
@@ -86,6 +88,7 @@ fn host_regime(state: State) -> Regime
     }
 }
 
+#[tactic(auto, unfolding(machine::specs::Access::access_e2))]
 fn way_e2(state: State, op: Operation) -> Way
     ensures { access_in state op result ≡ access_e2 state op }
 {
@@ -109,6 +112,7 @@ fn el2_regime(state: State) -> Regime
     }
 }
 
+#[tactic(auto, unfolding(machine::specs::Access::access_stage2))]
 fn way_stage2(state: State, op: Operation) -> Way
     ensures { access_in state op result ≡ access_stage2 state op }
 {
@@ -132,6 +136,7 @@ fn way_nv(state: State, op: Operation) -> Way
     }
 }
 
+#[tactic(auto, unfolding(machine::specs::Access::access_e3))]
 fn way_e3(state: State, op: Operation) -> Way
     ensures { access_in state op result ≡ access_e3 state op }
 {

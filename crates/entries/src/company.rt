@@ -74,6 +74,7 @@ fn is_guest_of(company: Company) -> bool
 }
 
 // One rule after the other: nearly every entry keeps all of them.
+#[tactic(auto, unfolding(machine::specs::Entry::is_company))]
 pub fn is_company(company: Company) -> bool
     ensures { result ≡ is_company company }
 {
@@ -89,6 +90,7 @@ pub fn is_company(company: Company) -> bool
 }
 
 // Stage 1 of EL1&0 and EL2&0.
+#[tactic(auto, unfolding(machine::specs::Entry::has_asids))]
 pub fn has_asids(company: Company) -> bool
     ensures { result ≡ has_asids company }
 {

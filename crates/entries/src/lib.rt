@@ -1,4 +1,6 @@
 // Entries: the companies they can have, the addresses in their reach, and their spans.
+#![tactic(auto)]
+
 mod company;
 mod reach;
 mod span;

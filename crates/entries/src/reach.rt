@@ -6,6 +6,7 @@ use crate::company::has_asids;
 use machine::Company;
 
 // Bits 63:55 are all 0 or all 1, or the base is below 2^56.
+#[tactic(auto, unfolding(machine::specs::Entry::in_reach))]
 pub fn in_reach(company: Company, base: u64) -> bool
     ensures { result ≡ in_reach company base }
 {

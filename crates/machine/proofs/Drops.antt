@@ -9,7 +9,7 @@ use Rattle.laws.specs.Every.{every}
 use Rattle.laws.specs.Mask.{mask_from}
 use Rattle.laws.specs.Slots.{count, first, cleared}
 use Rattle.machine.proofs.Sample.{two, three, NS, NSE, EEL2, E2H, TGE, NV, FnXS, RME, SEL2, no_d128, no_lpa2, no_range, no_xs, at, boarded, host_with_ds, stage1, stage2, guest, page_of, page, slot, zeros, junk}
-use Rattle.machine.specs.Access.{is_barred, is_trapped, reaches, reached_of, scope_of, access_e1, access_e2, access_stage2, access_e3, access_of, is_unit64_k}
+use Rattle.machine.specs.Access.{is_barred, is_trapped, reaches, reached_of, scope_of, access_e1, access_e2, access_stage2, access_e3, access_of, is_unit_64k}
 use Rattle.machine.specs.Answer.{executed_number, executed_trap, executed_dropped, ran_number, ran_step, ran_dropped}
 use Rattle.machine.specs.Asked.{form_of, told_of, asked_of}
 use Rattle.machine.specs.Entry.{is_company, has_asids, in_reach, is_legal}
@@ -80,7 +80,7 @@ pub hints :
     × (gone (at 1 (two ∷ [])) 0xD5088260 (operand 0 2 0 1 1) 0 (standing false 2 (pos 1) true 0 ∷ standing false 2 (pos 3) true 0x4000 ∷ standing false 2 (pos 0) false 0 ∷ standing false 2 (pos 1) false 0 ∷ []) ≡ (1 ∷ 0 ∷ 1 ∷ 0 ∷ []))
     × (gone guesting 0xD5088260 (operand 0 3 0 2 0) 0 (standing false 3 (pos 2) true 0 ∷ standing false 3 (pos 3) true 0 ∷ standing false 3 (pos 1) false 0 ∷ standing false 3 (pos 2) false 0 ∷ []) ≡ (1 ∷ 0 ∷ 1 ∷ 0 ∷ []))
 unfolding executed_of execute_table resolved_of count cleared drops goes work_of same_company read_of row_of access_of is_barred is_trapped access_e1 access_e2 access_e3 access_stage2 scope_of reached_of
-    reaches mask_from el2_enabled security_of security_in vmid_in hcrx_live bad_state bad_fields bad_board domains_agree every is_unit64_k asked_of form_of told_of ranged_of operand_of address_of hint_of range_of
+    reaches mask_from el2_enabled security_of security_in vmid_in hcrx_live bad_state bad_fields bad_board domains_agree every is_unit_64k asked_of form_of told_of ranged_of operand_of address_of hint_of range_of
     length_of is_unpredictable tlbi_exponent tlbip_exponent is_entry is_legal is_company has_asids in_reach has_span is_level exponent_of exponent_at height_of tag_of company_tag company_at entry_at
 hints = (refl, refl, refl, refl, refl, refl, refl, refl, refl, refl, refl, refl, refl, refl, refl)
 
@@ -92,7 +92,7 @@ pub meeting :
     × (gone guesting 0xD5088260 (operand 0 1 0 0 0x40000) 0 (standing false 1 (pos 3) true (0x40000000 - 4096) ∷ standing false 1 (pos 3) true 0x40000000 ∷ standing false 1 (pos 3) true 0x40001000 ∷ standing false 1 (pos 3) true 0x40002000 ∷ standing false 1 (pos 2) true (0x40000000 - 2 ^ 21) ∷ standing false 1 (pos 2) true 0x40000000 ∷ standing true 1 (pos 2) true 0x40000000 ∷ standing true 1 (pos 2) true 0x40100000 ∷ []) ≡ (0 ∷ 1 ∷ 1 ∷ 0 ∷ 0 ∷ 1 ∷ 1 ∷ 0 ∷ []))
     × (gone guesting 0xD5088260 0x0000401FFFFFFFFF 0 (standing false 1 (pos 3) true (2 ^ 64 - 2 ^ 12) ∷ standing false 1 (pos 3) true (2 ^ 64 - 2 ^ 13) ∷ standing false 1 (pos 3) true 0 ∷ standing false 1 (pos 2) true (2 ^ 64 - 2 ^ 21) ∷ []) ≡ (1 ∷ 0 ∷ 0 ∷ 1 ∷ []))
 unfolding executed_of execute_table resolved_of count cleared drops goes work_of same_company read_of row_of access_of is_barred is_trapped access_e1 access_e2 access_e3 access_stage2 scope_of reached_of
-    reaches mask_from el2_enabled security_of security_in vmid_in hcrx_live bad_state bad_fields bad_board domains_agree every is_unit64_k asked_of form_of told_of ranged_of operand_of address_of hint_of range_of
+    reaches mask_from el2_enabled security_of security_in vmid_in hcrx_live bad_state bad_fields bad_board domains_agree every is_unit_64k asked_of form_of told_of ranged_of operand_of address_of hint_of range_of
     length_of is_unpredictable tlbi_exponent tlbip_exponent is_entry is_legal is_company has_asids in_reach has_span is_level exponent_of exponent_at height_of tag_of company_tag company_at entry_at
 meeting = (refl, refl, refl, refl)
 
@@ -105,7 +105,7 @@ pub reaching :
     × (gone (boarded 3 2 (4 ∷ 4 ∷ 5 ∷ []) (9 ∷ 9 ∷ 8 ∷ [])) 0xD5088260 (operand 0 1 0 0 0) 0 (map (λ p. page_of (stage1 EL10 NonSecure 0) p 9 false 0) (0 ∷ 1 ∷ 2 ∷ 3 ∷ [])) ≡ (0 ∷ 0 ∷ 1 ∷ 0 ∷ []))
     × (gone (boarded 3 2 (4 ∷ 4 ∷ 5 ∷ []) (9 ∷ 9 ∷ 8 ∷ [])) 0xD5088560 (operand 0 1 0 0 0) 0 (map (λ p. page_of (stage1 EL10 NonSecure 0) p 9 false 0) (0 ∷ 1 ∷ 2 ∷ 3 ∷ [])) ≡ (0 ∷ 0 ∷ 1 ∷ 0 ∷ []))
 unfolding executed_of execute_table resolved_of count cleared drops goes work_of same_company read_of row_of access_of is_barred is_trapped access_e1 access_e2 access_e3 access_stage2 scope_of reached_of
-    reaches mask_from el2_enabled security_of security_in vmid_in hcrx_live bad_state bad_fields bad_board domains_agree every is_unit64_k asked_of form_of told_of ranged_of operand_of address_of hint_of range_of
+    reaches mask_from el2_enabled security_of security_in vmid_in hcrx_live bad_state bad_fields bad_board domains_agree every is_unit_64k asked_of form_of told_of ranged_of operand_of address_of hint_of range_of
     length_of is_unpredictable tlbi_exponent tlbip_exponent is_entry is_legal is_company has_asids in_reach has_span is_level exponent_of exponent_at height_of tag_of company_tag company_at entry_at
 reaching = (refl, refl, refl, refl, refl)
 
@@ -143,7 +143,7 @@ pub companies-apart :
     × (gone (at 3 (two ∷ three ∷ RME ∷ NS ∷ [])) 0xD50E8220 (operand 0 1 0 0 0) 0 (page (stage1 EL3 Root 0) 0 ∷ page (stage1 EL3 Secure 0) 0 ∷ []) ≡ (1 ∷ 0 ∷ []))
     × (gone (at 1 (two ∷ three ∷ RME ∷ NSE ∷ NS ∷ [])) 0xD5088260 (operand 0 1 0 0 0) 0 (page (stage1 EL10 Realm 7) 0 ∷ page (stage1 EL10 NonSecure 7) 0 ∷ []) ≡ (1 ∷ 0 ∷ []))
 unfolding executed_of execute_table resolved_of count cleared drops goes work_of same_company read_of row_of access_of is_barred is_trapped access_e1 access_e2 access_e3 access_stage2 scope_of reached_of
-    reaches mask_from el2_enabled security_of security_in vmid_in hcrx_live bad_state bad_fields bad_board domains_agree every is_unit64_k asked_of form_of told_of ranged_of operand_of address_of hint_of range_of
+    reaches mask_from el2_enabled security_of security_in vmid_in hcrx_live bad_state bad_fields bad_board domains_agree every is_unit_64k asked_of form_of told_of ranged_of operand_of address_of hint_of range_of
     length_of is_unpredictable tlbi_exponent tlbip_exponent is_entry is_legal is_company has_asids in_reach has_span is_level exponent_of exponent_at height_of tag_of company_tag company_at entry_at
 companies-apart = (refl, refl, refl, refl, refl, refl, refl, refl, refl, refl, refl, refl, refl, refl)
 
@@ -155,7 +155,7 @@ pub host-asids :
     × (gone (host_with_ds 1 []) 0xD5088260 (operand 0 1 0 0 0x4000) 0 (page (stage1 EL20 NonSecure 0) 0x40000000 ∷ page (stage1 EL20 NonSecure 0) 0x4000000 ∷ []) ≡ (1 ∷ 0 ∷ []))
     × (gone (host_with_ds 0 []) 0xD5088260 (operand 0 1 0 0 0x4000) 0 (page (stage1 EL20 NonSecure 0) 0x40000000 ∷ page (stage1 EL20 NonSecure 0) 0x4000000 ∷ []) ≡ (0 ∷ 1 ∷ []))
 unfolding executed_of execute_table resolved_of count cleared drops goes work_of same_company read_of row_of access_of is_barred is_trapped access_e1 access_e2 access_e3 access_stage2 scope_of reached_of
-    reaches mask_from el2_enabled security_of security_in vmid_in hcrx_live bad_state bad_fields bad_board domains_agree every is_unit64_k asked_of form_of told_of ranged_of operand_of address_of hint_of range_of
+    reaches mask_from el2_enabled security_of security_in vmid_in hcrx_live bad_state bad_fields bad_board domains_agree every is_unit_64k asked_of form_of told_of ranged_of operand_of address_of hint_of range_of
     length_of is_unpredictable tlbi_exponent tlbip_exponent is_entry is_legal is_company has_asids in_reach has_span is_level exponent_of exponent_at height_of tag_of company_tag company_at entry_at
 host-asids = (refl, refl, refl, refl, refl)
 
@@ -190,7 +190,7 @@ pub asids-and-leaves :
     × (gone (at 1 (two ∷ FnXS ∷ no_xs ∷ [])) 0xD5088260 (operand 9 1 0 0 0) 0 asids ≡ replicate 8 1)
     × (gone (at 1 (FnXS ∷ [])) 0xD5088260 (operand 9 1 0 0 0) 0 (record { processor = 1; company = stage1 EL10 NonSecure 0; asid = 9; global = false; wide = false; granule = 1; level = pos 3; leaf = true; xs = true; base = 0 } ∷ []) ≡ (1 ∷ []))
 unfolding executed_of execute_table resolved_of count cleared drops goes work_of same_company read_of row_of access_of is_barred is_trapped access_e1 access_e2 access_e3 access_stage2 scope_of reached_of
-    reaches mask_from el2_enabled security_of security_in vmid_in hcrx_live bad_state bad_fields bad_board domains_agree every is_unit64_k asked_of form_of told_of ranged_of operand_of address_of hint_of range_of
+    reaches mask_from el2_enabled security_of security_in vmid_in hcrx_live bad_state bad_fields bad_board domains_agree every is_unit_64k asked_of form_of told_of ranged_of operand_of address_of hint_of range_of
     length_of is_unpredictable tlbi_exponent tlbip_exponent is_entry is_legal is_company has_asids in_reach has_span is_level exponent_of exponent_at height_of tag_of company_tag company_at entry_at
 asids-and-leaves = (refl, refl, refl, refl, refl, refl, refl, refl, refl, refl)
 
@@ -217,7 +217,7 @@ pub answers :
     × (executing guesting 0xD5488260 (operand 0 2 0 1 0) 4 (slot (page guest 0) 5) ≡ (0, 0, 0, slot (page guest 0) 5))
     × (executing guesting 0xD5088260 (operand 0 1 0 0 0) 0 [] ≡ (0, 0, 0, []))
 unfolding executed_of execute_table resolved_of count cleared drops goes work_of same_company read_of row_of access_of is_barred is_trapped access_e1 access_e2 access_e3 access_stage2 scope_of reached_of
-    reaches mask_from el2_enabled security_of security_in vmid_in hcrx_live bad_state bad_fields bad_board domains_agree every is_unit64_k asked_of form_of told_of ranged_of operand_of address_of hint_of range_of
+    reaches mask_from el2_enabled security_of security_in vmid_in hcrx_live bad_state bad_fields bad_board domains_agree every is_unit_64k asked_of form_of told_of ranged_of operand_of address_of hint_of range_of
     length_of is_unpredictable tlbi_exponent tlbip_exponent is_entry is_legal is_company has_asids in_reach has_span is_level exponent_of exponent_at height_of tag_of company_tag company_at entry_at
 answers = (refl, refl, refl, refl, refl, refl, refl, refl, refl, refl, refl, refl, refl, refl, refl, refl, refl, refl, refl, refl)
 
@@ -232,7 +232,7 @@ pub tables :
     × (executing guesting 0xD548827E (operand 0 1 0 0 0) 2 (slot (page guest 0) 6) ≡ (0, 0, 1, zeros))
     × (executing guesting 0xD5088260 (operand 0 1 0 0 0) 0 ((0 ∷ (tag_of (page guest 0) + 2 ^ 54) ∷ 6 ∷ []) ++ (1 ∷ tag_of (page guest 0) ∷ 6 ∷ [])) ≡ (0, 0, 0, (0 ∷ (tag_of (page guest 0) + 2 ^ 54) ∷ 6 ∷ []) ++ (1 ∷ tag_of (page guest 0) ∷ 6 ∷ [])))
 unfolding executed_of execute_table resolved_of count cleared drops goes work_of same_company read_of row_of access_of is_barred is_trapped access_e1 access_e2 access_e3 access_stage2 scope_of reached_of
-    reaches mask_from el2_enabled security_of security_in vmid_in hcrx_live bad_state bad_fields bad_board domains_agree every is_unit64_k asked_of form_of told_of ranged_of operand_of address_of hint_of range_of
+    reaches mask_from el2_enabled security_of security_in vmid_in hcrx_live bad_state bad_fields bad_board domains_agree every is_unit_64k asked_of form_of told_of ranged_of operand_of address_of hint_of range_of
     length_of is_unpredictable tlbi_exponent tlbip_exponent is_entry is_legal is_company has_asids in_reach has_span is_level exponent_of exponent_at height_of tag_of company_tag company_at entry_at
 tables = (refl, refl, refl, refl, refl, refl, refl)
 
@@ -267,7 +267,7 @@ pub runs :
     × (running guesting (step 0 ++ step 0) pages ≡ (0, 0, 1, zeros ++ slot (page guest 0x2000) 6 ++ slot (page guest 0x4000) 7))
     × (running guesting (step 0) [] ≡ (0, 0, 0, []))
 unfolding ran_of run_table steps_table steps_dropped first executed_of execute_table resolved_of count cleared drops goes work_of same_company read_of row_of access_of is_barred is_trapped access_e1 access_e2 access_e3 access_stage2 scope_of reached_of
-    reaches mask_from el2_enabled security_of security_in vmid_in hcrx_live bad_state bad_fields bad_board domains_agree every is_unit64_k asked_of form_of told_of ranged_of operand_of address_of hint_of range_of
+    reaches mask_from el2_enabled security_of security_in vmid_in hcrx_live bad_state bad_fields bad_board domains_agree every is_unit_64k asked_of form_of told_of ranged_of operand_of address_of hint_of range_of
     length_of is_unpredictable tlbi_exponent tlbip_exponent is_entry is_legal is_company has_asids in_reach has_span is_level exponent_of exponent_at height_of tag_of company_tag company_at entry_at
 runs = (refl, refl, refl, refl, refl, refl)
 
@@ -286,6 +286,6 @@ pub run-answers :
     × (running guesting (replicate 48 0) pages ≡ (10, 0, 0, pages))
     × (ran_number (ran_of guesting (step 0) (replicate 6147 0)) ≡ 13)
 unfolding ran_of run_table steps_table steps_dropped first executed_of execute_table resolved_of count cleared drops goes work_of same_company read_of row_of access_of is_barred is_trapped access_e1 access_e2 access_e3 access_stage2 scope_of reached_of
-    reaches mask_from el2_enabled security_of security_in vmid_in hcrx_live bad_state bad_fields bad_board domains_agree every is_unit64_k asked_of form_of told_of ranged_of operand_of address_of hint_of range_of
+    reaches mask_from el2_enabled security_of security_in vmid_in hcrx_live bad_state bad_fields bad_board domains_agree every is_unit_64k asked_of form_of told_of ranged_of operand_of address_of hint_of range_of
     length_of is_unpredictable tlbi_exponent tlbip_exponent is_entry is_legal is_company has_asids in_reach has_span is_level exponent_of exponent_at height_of tag_of company_tag company_at entry_at
 run-answers = (refl, refl, refl, refl, refl, refl, refl, refl, refl, refl, refl, refl)

@@ -1,7 +1,7 @@
 -- Facts that show the book's definitions to be the paper's.
 pub mod Rows
 pub mod Trip
-pub mod State
+pub mod States
 pub mod Reach
 pub mod Bases
 pub mod Cleared

@@ -6,7 +6,7 @@ use native.Mathlib.Omega.{arith}
 use lib.Dec.{eqb, ltb}
 use borrow.Author.Tests.{eqb-true, le-ltb, ne_eqb, not-true}
 use Rattle.laws.proofs.Truth.{and_0, and-1, or-0}
-use Rattle.machine.proofs.State.{Good, good}
+use Rattle.machine.proofs.States.{Good, good}
 use Rattle.machine.specs.Access.{is_barred, is_trapped, acts_nxs, reaches, reached_of, scope_of, access_e1, access_e2, access_e3, access_stage2, access_of}
 use Rattle.machine.specs.Pages.{page_el2_enabled, page_nv, page_host_bits, page_hcrx_enabled, page_reached, page_valid_el2, page_valid_el3, page_security, page_vmid, rva2, page000, rvaa10, rvaa20, page001, page001nxs, rva3, page002, ripas2, page003, page004, op000, op001, op002, op003, op004}
 use Rattle.machine.specs.State.{is_secure, security_of, security_in, el2_enabled, e2h_of, tge_of, vmid_in, hcrx_live, bad_fields, bad_state}

@@ -5,7 +5,7 @@ use mathlib.Core.List.{List, [], ◌∷◌}
 use mathlib.Core.Path.{◌≡◌, refl}
 use lib.ListN.{take, drop}
 use Rattle.machine.proofs.Sample.{two, three, NS, NSE, EEL2, RME, SEL2, E2H, TGE, no_lpa2, at, state_on, three-processors, host_with_ds}
-use Rattle.machine.specs.Access.{is_barred, is_trapped, scope_of, access_e1, access_e2, access_stage2, access_e3, access_of, is_unit64_k}
+use Rattle.machine.specs.Access.{is_barred, is_trapped, scope_of, access_e1, access_e2, access_stage2, access_e3, access_of, is_unit_64k}
 use Rattle.machine.specs.Answer.{read_number, read_fields, written_number, written_xt, written_xt2, ranged_number}
 use Rattle.machine.specs.Asked.{form_of, told_of, asked_of}
 use Rattle.machine.specs.Operand.{address_of, hint_of, operand_of, field_of, is_shown, is_writable, xt_of, xt2_of, words_of}
@@ -61,7 +61,7 @@ pub marked :
     × (plain 0x0000000000040000 ≡ (6 ∷ []))
     × (with_ds 0x0000400000004000 ≡ plain 0x0000400000040000)
     × (plain 0x0000802000000001 ≡ (0 ∷ 0x4000 ∷ 0xBFFF ∷ 0 ∷ 0 ∷ 0 ∷ []))
-unfolding read_of row_of access_of is_barred is_trapped access_e1 scope_of el2_enabled security_of security_in vmid_in hcrx_live is_unit64_k
+unfolding read_of row_of access_of is_barred is_trapped access_e1 scope_of el2_enabled security_of security_in vmid_in hcrx_live is_unit_64k
     asked_of form_of told_of ranged_of operand_of address_of hint_of range_of length_of is_unpredictable tlbi_exponent
 marked = (refl, refl, refl, refl, refl, refl, refl, refl)
 
@@ -296,7 +296,7 @@ pub forms :
     × (asked (at 2 (two ∷ three ∷ NS ∷ NSE ∷ RME ∷ [])) (read_of 0xD50C8040) top 0 ≡ (0 ∷ 0x0001000000000000 ∷ 0x0001000000001FFF ∷ 0 ∷ 0 ∷ 0 ∷ []))
     × (asked (at 1 []) (read_of 0xD5488220) (xt 0x8001 1 0 0 0 0) (2 ^ 43) ≡ (0 ∷ 0xFF80000000000000 ∷ 0xFF80000000001FFF ∷ 0 ∷ 0x8001 ∷ 0 ∷ []))
     × (asked (at 2 (two ∷ three ∷ EEL2 ∷ SEL2 ∷ [])) (read_of 0xD54C8040) (xt 0x8001 1 0 0 0 0) (2 ^ 43) ≡ (0 ∷ 0x0080000000000000 ∷ 0x0080000000001FFF ∷ 0 ∷ 0 ∷ 1 ∷ []))
-unfolding read_of row_of access_of is_barred is_trapped access_e1 access_e2 access_e3 access_stage2 scope_of el2_enabled security_of security_in vmid_in hcrx_live is_unit64_k
+unfolding read_of row_of access_of is_barred is_trapped access_e1 access_e2 access_e3 access_stage2 scope_of el2_enabled security_of security_in vmid_in hcrx_live is_unit_64k
     asked_of form_of told_of ranged_of operand_of address_of hint_of range_of length_of is_unpredictable tlbi_exponent tlbip_exponent
 forms = (refl, refl, refl, refl, refl, refl, refl, refl, refl, refl, refl)
 
@@ -310,7 +310,7 @@ pub registers :
     × (asked (at 1 []) (read_of 0xD5088260) 0x0000400000040000 0x1234 ≡ (0 ∷ 0x40000000 ∷ 0x40001FFF ∷ 0 ∷ 0 ∷ 0 ∷ []))
     × (asked (at 2 (two ∷ [])) (read_of 0xD54C863C) 0x0000400000000000 0x1234 ≡ (0 ∷ 0x1234000 ∷ 0x1235FFF ∷ 0 ∷ 0 ∷ 0 ∷ []))
     × (asked (at 1 []) (read_of 0xD508827D) 0x0000400000040000 0 ≡ (0 ∷ 0x40000000 ∷ 0x40001FFF ∷ 0 ∷ 0 ∷ 0 ∷ []))
-unfolding read_of row_of access_of is_barred is_trapped access_e1 access_e2 scope_of el2_enabled security_of security_in vmid_in hcrx_live is_unit64_k
+unfolding read_of row_of access_of is_barred is_trapped access_e1 access_e2 scope_of el2_enabled security_of security_in vmid_in hcrx_live is_unit_64k
     asked_of form_of told_of ranged_of operand_of address_of hint_of range_of length_of is_unpredictable tlbi_exponent tlbip_exponent
 registers = (refl, refl, refl, refl, refl, refl, refl, refl)
 
@@ -323,6 +323,6 @@ pub units :
     × (asked (host_with_ds 1 []) (read_of 0xD50C8620) 0x0000400000004000 0 ≡ (0 ∷ 0x40000000 ∷ 0x40001FFF ∷ 0 ∷ 0 ∷ 0 ∷ []))
     × (asked (host_with_ds 1 []) (read_of 0xD54C8620) 0x0000400000000000 0x4000 ≡ (0 ∷ 0x4000000 ∷ 0x4001FFF ∷ 0 ∷ 0 ∷ 0 ∷ []))
     × (asked (at 1 []) (read_of 0xD5088260) 0x0000802000000001 0 ≡ (0 ∷ 0x4000 ∷ 0xBFFF ∷ 1 ∷ 0 ∷ 0 ∷ []))
-unfolding read_of row_of access_of is_barred is_trapped access_e1 access_e2 access_stage2 scope_of el2_enabled security_of security_in vmid_in hcrx_live is_unit64_k
+unfolding read_of row_of access_of is_barred is_trapped access_e1 access_e2 access_stage2 scope_of el2_enabled security_of security_in vmid_in hcrx_live is_unit_64k
     asked_of form_of told_of ranged_of operand_of address_of hint_of range_of length_of is_unpredictable tlbi_exponent tlbip_exponent
 units = (refl, refl, refl, refl, refl, refl, refl)

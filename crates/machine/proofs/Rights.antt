@@ -7,7 +7,7 @@ use lib.Dec.{eqb}
 use Rattle.laws.specs.Every.{every}
 use Rattle.laws.specs.Mask.{mask_from}
 use Rattle.machine.proofs.Sample.{two, three, NS, NSE, EEL2, FGTEn, HXEn, E2H, TGE, TTLB, TTLBIS, TTLBOS, NV, FnXS, FGTnXS, flagged, RME, SEL2, no_range, no_os, no_d128, no_xs, no_fgt, no_hcx, no_lpa2, at, boarded, host_with_ds}
-use Rattle.machine.specs.Access.{is_barred, is_trapped, reaches, reached_of, scope_of, access_e1, access_e2, access_stage2, access_e3, access_of, is_unit64_k, trap_flag}
+use Rattle.machine.specs.Access.{is_barred, is_trapped, reaches, reached_of, scope_of, access_e1, access_e2, access_stage2, access_e3, access_of, is_unit_64k, trap_flag}
 use Rattle.machine.specs.Answer.{access_number, access_value}
 use Rattle.machine.specs.Pages.{op003}
 use Rattle.machine.specs.State.{security_of, security_in, el2_enabled, vmid_in, hcrx_live, domains_agree, bad_board, bad_fields, bad_state}
@@ -205,12 +205,12 @@ flags k = (refl, refl, refl, refl, refl, refl, refl, refl, refl, refl, refl, ref
 
 -- the DS of the regime that is acted on, with LPA2 and without; RVAAE1IS at EL2 with {E2H, TGE} 11 acts on EL2&0 and so reads EL2's
 pub units : (k : ℕ) →
-    (is_unit64_k (host_with_ds k []) EL10 false ≡ eqb k 0)
-    × (is_unit64_k (host_with_ds k []) EL20 false ≡ eqb k 1)
-    × (is_unit64_k (host_with_ds k []) EL2 false ≡ eqb k 1)
-    × (is_unit64_k (host_with_ds k []) EL3 false ≡ eqb k 2)
-    × (is_unit64_k (host_with_ds k []) EL10 true ≡ eqb k 3)
-    × (is_unit64_k (host_with_ds k (no_lpa2 ∷ [])) EL20 false ≡ false)
+    (is_unit_64k (host_with_ds k []) EL10 false ≡ eqb k 0)
+    × (is_unit_64k (host_with_ds k []) EL20 false ≡ eqb k 1)
+    × (is_unit_64k (host_with_ds k []) EL2 false ≡ eqb k 1)
+    × (is_unit_64k (host_with_ds k []) EL3 false ≡ eqb k 2)
+    × (is_unit_64k (host_with_ds k []) EL10 true ≡ eqb k 3)
+    × (is_unit_64k (host_with_ds k (no_lpa2 ∷ [])) EL20 false ≡ false)
     × (ran (read_of 0xD5088260) (host_with_ds k []) ≡ (EL20, NonSecure, 0, false))
-unfolding is_unit64_k read_of row_of access_of is_barred access_e1 scope_of el2_enabled security_of security_in vmid_in
+unfolding is_unit_64k read_of row_of access_of is_barred access_e1 scope_of el2_enabled security_of security_in vmid_in
 units k = (refl, refl, refl, refl, refl, refl, refl)

@@ -200,5 +200,5 @@ ds_of ds EL2 stage2 = ds.el2
 ds_of ds EL3 stage2 = ds.el3
 
 -- "in units of 64 KiB if LPA2 and the regime's DS hold (001)"
-unfoldable pub is_unit64_k : State → Regime → Bool → Bool
-is_unit64_k st g stage2 = st.features.lpa2 && ds_of st.ds g stage2
+unfoldable pub is_unit_64k : State → Regime → Bool → Bool
+is_unit_64k st g stage2 = st.features.lpa2 && ds_of st.ds g stage2

@@ -10,7 +10,7 @@ use Rattle.machine.specs.declared.scope.Regime.{Regime}
 use Rattle.machine.specs.declared.scope.Regime.TheVariants.{EL10, EL20, EL2, EL3}
 use Rattle.machine.specs.declared.scope.Scope.{Scope}
 use Rattle.machine.specs.State.{is_secure}
-use Rattle.machine.specs.Access.{is_unit64_k}
+use Rattle.machine.specs.Access.{is_unit_64k}
 use Rattle.machine.specs.Range.{ranged_of}
 
 -- "Rt 31 means a zero operand, whatever was passed; under SYSP with Rt 30, Xt2 counts as zero."
@@ -39,7 +39,7 @@ told_of st op s = record {
   tlbip = op.tlbip;
   form = form_of s;
   lpa2 = st.features.lpa2;
-  unit64k = is_unit64_k st s.regime s.stage2;
+  unit64k = is_unit_64k st s.regime s.stage2;
 }
 
 unfoldable pub asked_of : State → Operation → Scope → ℕ → ℕ → Ranged

@@ -1,4 +1,6 @@
 // The book's plain types: an operation, the processor state, an operand, an entry, the work of an operation, a target, and what the calls over them answer.
+#![tactic(auto)]
+
 mod entry;
 mod judge;
 mod operand;

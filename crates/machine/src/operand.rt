@@ -1,7 +1,7 @@
 // An operand by its fields, what its reader and writer are told and answer, and the range it means.
 
 // Two ranges with ASID, two without, one range, stage 2 with NS (Secure), or stage 2 without.
-#[derive(Drop)]
+#[derive(Clone, Copy)]
 pub enum Form {
     TwoRangesAsid,
     TwoRanges,
@@ -11,7 +11,7 @@ pub enum Form {
 }
 
 // What reader and writer are told: TLBIP or TLBI, the form, LPA2, and whether a TLBI base is in units of 64 KiB.
-#[derive(Drop)]
+#[derive(Clone, Copy)]
 pub struct Told {
     pub tlbip: bool,
     pub form: Form,
@@ -20,7 +20,7 @@ pub struct Told {
 }
 
 // The fields as numbers, so that a writer can be given one that does not fit; the base is an address.
-#[derive(Drop)]
+#[derive(Clone, Copy)]
 pub struct Operand {
     pub asid: u64,
     pub ns: u64,
@@ -32,28 +32,28 @@ pub struct Operand {
 }
 
 // What two words read as: fields, or that TG is 00.
-#[derive(Drop)]
+#[derive(Clone, Copy)]
 pub enum OperandRead {
     Fields(Operand),
     NoGranule,
 }
 
 // The words Xt and Xt2 of some fields, or that a field or the base cannot be written.
-#[derive(Drop)]
+#[derive(Clone, Copy)]
 pub enum OperandWritten {
     Words(u64, u64),
     Refused,
 }
 
 // First and last address, both included.
-#[derive(Drop)]
+#[derive(Clone, Copy)]
 pub struct Range {
     pub first: u64,
     pub last: u64,
 }
 
 // What an operand asks for: fields and a range, or that TG is 00, or that the range is UNPREDICTABLE.
-#[derive(Drop)]
+#[derive(Clone, Copy)]
 pub enum Ranged {
     Covers(Operand, Range),
     NoGranule,

@@ -1,13 +1,13 @@
 // The processor state by its fields, and the board it stands on.
 
 // Which of the upper exception levels there are.
-#[derive(Drop)]
+#[derive(Clone, Copy)]
 pub struct Present {
     pub el2: bool,
     pub el3: bool,
 }
 
-#[derive(Drop)]
+#[derive(Clone, Copy)]
 pub struct Features {
     pub tlbirange: bool,
     pub tlbios: bool,
@@ -21,7 +21,7 @@ pub struct Features {
 }
 
 // SCR_EL3.
-#[derive(Drop)]
+#[derive(Clone, Copy)]
 pub struct Scr {
     pub ns: bool,
     pub nse: bool,
@@ -31,7 +31,7 @@ pub struct Scr {
 }
 
 // HCR_EL2.
-#[derive(Drop)]
+#[derive(Clone, Copy)]
 pub struct Hcr {
     pub e2h: bool,
     pub tge: bool,
@@ -42,14 +42,14 @@ pub struct Hcr {
 }
 
 // HCRX_EL2.
-#[derive(Drop)]
+#[derive(Clone, Copy)]
 pub struct Hcrx {
     pub fnxs: bool,
     pub fgtnxs: bool,
 }
 
 // One flag for each shareability.
-#[derive(Drop)]
+#[derive(Clone, Copy)]
 pub struct Flags {
     pub local: bool,
     pub inner: bool,
@@ -57,7 +57,7 @@ pub struct Flags {
 }
 
 // The fine-grained trap flags of HFGITR_EL2, one for each E1 name and shareability.
-#[derive(Drop)]
+#[derive(Clone, Copy)]
 pub struct Traps {
     pub rvae1: Flags,
     pub rvaae1: Flags,
@@ -66,7 +66,7 @@ pub struct Traps {
 }
 
 // DS of EL1, EL2 and EL3 (TCR_ELx) and of stage 2 (VTCR_EL2).
-#[derive(Drop)]
+#[derive(Clone, Copy)]
 pub struct Ds {
     pub el1: bool,
     pub el2: bool,
@@ -76,7 +76,7 @@ pub struct Ds {
 
 // The own number, how many processors there are, and the inner and the outer domain of each. Domains at or above the count have
 // no say.
-#[derive(Drop)]
+#[derive(Clone, Copy)]
 pub struct Board {
     pub own: u8,
     pub count: u8,
@@ -84,7 +84,7 @@ pub struct Board {
     pub outer: [u8; 8],
 }
 
-#[derive(Drop)]
+#[derive(Clone, Copy)]
 pub struct State {
     pub el: u8,
     pub present: Present,

@@ -1,7 +1,7 @@
 // What the access rules answer, and what an operation that runs acts on.
 
 // EL1&0, EL2&0, EL2 and EL3.
-#[derive(Drop)]
+#[derive(Clone, Copy)]
 pub enum Regime {
     EL10,
     EL20,
@@ -9,7 +9,7 @@ pub enum Regime {
     EL3,
 }
 
-#[derive(Drop)]
+#[derive(Clone, Copy)]
 pub enum Security {
     Secure,
     NonSecure,
@@ -19,7 +19,7 @@ pub enum Security {
 
 // What an operation acts on, before its operand is read: `reached` has a bit for each processor, number 0 lowest;
 // `asid` says that an ASID applies, `last` that the name has L, `nxs` that it acts as NXS.
-#[derive(Drop)]
+#[derive(Clone, Copy)]
 pub struct Scope {
     pub regime: Regime,
     pub security: Security,
@@ -32,7 +32,7 @@ pub struct Scope {
 }
 
 // UNDEFINED, trapped to EL2 with a number, ends without effect, or runs.
-#[derive(Drop)]
+#[derive(Clone, Copy)]
 pub enum Access {
     Undefined,
     Trapped(u8),

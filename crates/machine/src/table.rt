@@ -2,7 +2,7 @@
 use crate::entry::Entry;
 
 // The slot that was taken, or bad shape, or that the entry breaks a rule, or that no slot reads as empty.
-#[derive(Drop)]
+#[derive(Clone, Copy)]
 pub enum Inserted {
     At(usize),
     BadShape,
@@ -11,7 +11,7 @@ pub enum Inserted {
 }
 
 // The lowest slot that matches, its output word, and how many slots were examined.
-#[derive(Drop)]
+#[derive(Clone, Copy)]
 pub struct Match {
     pub slot: usize,
     pub out: u64,
@@ -19,7 +19,7 @@ pub struct Match {
 }
 
 // A match, or bad shape, or a bad processor state, or that none matches, and how many slots were examined.
-#[derive(Drop)]
+#[derive(Clone, Copy)]
 pub enum LookedUp {
     Found(Match),
     BadShape,
@@ -28,7 +28,7 @@ pub enum LookedUp {
 }
 
 // The entry and the output word that a slot holds, or bad shape, or that there is no such slot, or that it reads as empty.
-#[derive(Drop)]
+#[derive(Clone, Copy)]
 pub enum SlotRead {
     Holds(Entry, u64),
     BadShape,

@@ -4,7 +4,7 @@ use crate::entry::Company;
 // An operation with its operand: `reached` has a bit for each processor, number 0 lowest; `hinted` says that TTL is not 00, `level` is
 // the level it names then; `wide` says that the operation is TLBIP, `d128` that D128 is present; `leaves` that the name has L, `one` that
 // an ASID applies, `nxs` that it acts as NXS.
-#[derive(Drop)]
+#[derive(Clone, Copy)]
 pub struct Work {
     pub company: Company,
     pub reached: u64,
@@ -22,7 +22,7 @@ pub struct Work {
 }
 
 // What an instruction word and two register words come to in a state: work, or why there is none.
-#[derive(Drop)]
+#[derive(Clone, Copy)]
 pub enum Resolved {
     Works(Work),
     Unknown,
@@ -34,7 +34,7 @@ pub enum Resolved {
 }
 
 // The number of slots that were dropped, or why nothing was done.
-#[derive(Drop)]
+#[derive(Clone, Copy)]
 pub enum Executed {
     Dropped(usize),
     BadShape,
@@ -48,7 +48,7 @@ pub enum Executed {
 }
 
 // The number of slots that all steps dropped, or why nothing was done; of steps that do not answer 0, the first.
-#[derive(Drop)]
+#[derive(Clone, Copy)]
 pub enum Ran {
     Dropped(usize),
     BadShape,

@@ -59,6 +59,7 @@ pub fn tlbip_address(copied: bool, tg: u64, field: u64) -> u64
     }
 }
 
+#[tactic(auto, unfolding(machine::specs::Operand::address_of))]
 pub fn address_of(told: Told, tg: u64, field: u64) -> u64
     requires { (1 ≤ tg) × (tg < 4) × (field < 2 ^ cond told.tlbip 44 37) }
     ensures { result ≡ address_of told tg field }

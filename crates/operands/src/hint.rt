@@ -8,6 +8,7 @@ pub fn reads_as_zero(lpa2: bool, tg: u64, ttl: u64) -> bool
     (ttl == 1) & (tg == 2) & !lpa2
 }
 
+#[tactic(auto, unfolding(machine::specs::Operand::hint_of))]
 pub fn hint_of(lpa2: bool, tg: u64, ttl: u64) -> u64
     ensures { result ≡ hint_of lpa2 tg ttl }
 {

@@ -1,4 +1,6 @@
 // Operands: the fields of register words, read and written.
+#![tactic(auto)]
+
 mod base;
 mod form;
 mod granule;

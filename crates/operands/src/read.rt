@@ -27,6 +27,7 @@ fn ns_in(form: Form, xt: u64) -> u64
     }
 }
 
+#[tactic(auto, unfolding(machine::specs::Operand::operand_of))]
 pub fn read_operand(told: Told, xt: u64, xt2: u64) -> OperandRead
     ensures { result ≡ operand_of told xt xt2 }
 {

@@ -27,6 +27,7 @@ fn ns_fits(has: bool, ns: u64) -> bool
 }
 
 // The fields fit, and only the base is left to look at. One test after the other: they hold for nearly all that is written.
+#[tactic(auto, unfolding(machine::specs::Operand::is_writable, machine::specs::Operand::is_shown))]
 fn fields_fit(told: Told, o: Operand) -> bool
     requires { (1 ≤ o.tg) × (o.tg < 4) }
     ensures { is_writable told o ≡ (result && is_shown told o.tg o.base) }
@@ -64,6 +65,7 @@ fn joined(ns: u64, asid: u64, tg: u64, scale: u64, num: u64, ttl: u64, low: u64)
 }
 
 // `low` is the base of a TLBI, which stands in bits 36:0.
+#[tactic(auto, unfolding(machine::specs::Operand::is_writable, machine::specs::Operand::field_of, machine::specs::Operand::xt_of))]
 fn xt_of(told: Told, o: Operand, low: u64) -> u64
     requires { (is_writable told o ≡ true) × (low ≡ cond told.tlbip 0 (field_of told o.tg o.base)) × (low < 2 ^ 37) }
     ensures { result ≡ xt_of told o }
@@ -71,6 +73,7 @@ fn xt_of(told: Told, o: Operand, low: u64) -> u64
     joined(o.ns, o.asid, o.tg, o.scale, o.num, o.ttl, low)
 }
 
+#[tactic(auto, unfolding(machine::specs::Operand::is_writable, machine::specs::Operand::is_shown, machine::specs::Operand::words_of, machine::specs::Operand::field_of, machine::specs::Operand::address_of, machine::specs::Operand::xt2_of))]
 fn write_tlbi(told: Told, o: Operand) -> OperandWritten
     requires { (told.tlbip ≡ false) × (1 ≤ o.tg) × (o.tg < 4) × (is_writable told o ≡ is_shown told o.tg o.base) }
     ensures { result ≡ words_of told o }
@@ -86,6 +89,7 @@ fn write_tlbi(told: Told, o: Operand) -> OperandWritten
     OperandWritten::Refused
 }
 
+#[tactic(auto, unfolding(machine::specs::Operand::is_writable, machine::specs::Operand::is_shown, machine::specs::Operand::words_of, machine::specs::Operand::field_of, machine::specs::Operand::address_of, machine::specs::Operand::xt2_of))]
 fn write_tlbip(told: Told, o: Operand) -> OperandWritten
     requires { (told.tlbip ≡ true) × (1 ≤ o.tg) × (o.tg < 4) × (is_writable told o ≡ is_shown told o.tg o.base) }
     ensures { result ≡ words_of told o }
@@ -100,6 +104,7 @@ fn write_tlbip(told: Told, o: Operand) -> OperandWritten
     OperandWritten::Refused
 }
 
+#[tactic(auto, unfolding(machine::specs::Operand::words_of, machine::specs::Operand::is_writable))]
 pub fn write_operand(told: Told, o: Operand) -> OperandWritten
     ensures { result ≡ words_of told o }
 {

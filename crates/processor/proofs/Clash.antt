@@ -11,7 +11,7 @@ use borrow.Author.Tests.{eqb-true, eq-eqb, ne_eqb}
 use Rattle.laws.proofs.Every.{at, each}
 use Rattle.laws.proofs.Truth.{alike, or_right}
 use Rattle.laws.specs.Every.{every}
-use Rattle.machine.proofs.State.{domains-half}
+use Rattle.machine.proofs.States.{domains-half}
 use Rattle.machine.specs.State.{agree_by}
 
 -- none from q on and below p is in the inner domain of p

@@ -6,6 +6,7 @@ ghost use Rattle.processor.specs.Domains.{is_first, number_of};
 
 use machine::Board;
 
+#[tactic(auto, unfolding(machine::specs::State::bad_board, machine::specs::State::domains_agree))]
 pub fn is_bad_board(board: Board) -> bool
     ensures { result ≡ bad_board board }
 {

@@ -7,6 +7,7 @@ use crate::el2::el2_enabled;
 use machine::State;
 
 // The answer to a bad state is 2.
+#[tactic(auto, unfolding(machine::specs::State::bad_state))]
 pub fn is_bad(state: State) -> bool
     ensures { result ≡ bad_state state }
 {
@@ -16,6 +17,7 @@ pub fn is_bad(state: State) -> bool
     is_bad_board(state.board)
 }
 
+#[tactic(auto, unfolding(machine::specs::State::bad_fields))]
 fn is_bad_fields(state: State) -> bool
     ensures { result ≡ bad_fields state }
 {

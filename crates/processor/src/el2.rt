@@ -5,6 +5,7 @@ ghost use Rattle.machine.specs.State.{el2_enabled, vmid_of, vmid_in, hcrx_live};
 use crate::security::{is_secure, security_of};
 use machine::{Regime, State};
 
+#[tactic(auto, unfolding(machine::specs::State::el2_enabled))]
 pub fn el2_enabled(state: State) -> bool
     ensures { result ≡ el2_enabled state }
 {
@@ -13,6 +14,7 @@ pub fn el2_enabled(state: State) -> bool
 }
 
 // The VMID of a regime's entries.
+#[tactic(auto, unfolding(machine::specs::State::vmid_in))]
 pub fn vmid_in(state: State, regime: Regime) -> u16
     ensures { result ≡ vmid_in state regime }
 {
@@ -30,6 +32,7 @@ fn vmid_of(state: State) -> u16
     if el2_enabled(state) { state.vmid } else { 0 }
 }
 
+#[tactic(auto, unfolding(machine::specs::State::hcrx_live))]
 pub fn hcrx_live(state: State) -> bool
     ensures { result ≡ hcrx_live state }
 {

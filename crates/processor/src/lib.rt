@@ -1,4 +1,6 @@
 // The processor state: its check, and what follows from its fields.
+#![tactic(auto)]
+
 mod board;
 mod check;
 mod el2;

@@ -5,6 +5,7 @@ ghost use Rattle.machine.specs.State.{is_secure, security_of, own_security, secu
 use machine::{Regime, Security, State};
 
 // The security state of a regime's entries.
+#[tactic(auto, unfolding(machine::specs::State::security_in))]
 pub fn security_in(state: State, regime: Regime) -> Security
     ensures { result ≡ security_in state regime }
 {
@@ -17,6 +18,7 @@ pub fn security_in(state: State, regime: Regime) -> Security
 }
 
 // The security state that SCR_EL3 gives.
+#[tactic(auto, unfolding(machine::specs::State::security_of))]
 pub fn security_of(state: State) -> Security
     ensures { result ≡ security_of state }
 {

@@ -1,11 +1,12 @@
 // Whether a TLBI base is in units of 64 KiB.
 ghost use Rattle.std.specs.Prelude.{◌≡◌};
-ghost use Rattle.machine.specs.Access.{ds_of, is_unit64_k};
+ghost use Rattle.machine.specs.Access.{ds_of, is_unit_64k};
 
 use machine::{Ds, Regime, State};
 
+#[tactic(auto, unfolding(machine::specs::Access::is_unit_64k))]
 pub fn is_unit_64k(state: State, regime: Regime, stage2: bool) -> bool
-    ensures { result ≡ is_unit64_k state regime stage2 }
+    ensures { result ≡ is_unit_64k state regime stage2 }
 {
     let ds = ds_of(state.ds, regime, stage2);
     state.features.lpa2 & ds

@@ -18,6 +18,7 @@ fn granules(num: u64, scale: u64) -> u64
     }
 }
 
+#[tactic(auto, unfolding(machine::specs::Range::length_of))]
 pub fn length_of(o: Operand) -> u64
     requires { Within o }
     ensures { (result ≡ length_of o) × (1 ≤ result) }

@@ -1,4 +1,6 @@
 // Ranges: which addresses an operand covers, and what an operation asks for.
+#![tactic(auto)]
+
 mod length;
 mod multiple;
 mod range;

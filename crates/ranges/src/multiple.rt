@@ -6,6 +6,7 @@ ghost use Rattle.machine.specs.Range.{tlbi_exponent, tlbip_exponent, is_unpredic
 use machine::Operand;
 use spans::{exponent_of, is_multiple};
 
+#[tactic(auto, unfolding(machine::specs::Range::tlbi_exponent))]
 fn of_4k(ttl: u64) -> u64
     ensures { (result ≡ tlbi_exponent 1 ttl) × (result ≤ 63) }
 {
@@ -16,6 +17,7 @@ fn of_4k(ttl: u64) -> u64
     }
 }
 
+#[tactic(auto, unfolding(machine::specs::Range::tlbi_exponent))]
 fn of_16k(ttl: u64) -> u64
     ensures { (result ≡ tlbi_exponent 2 ttl) × (result ≤ 63) }
 {
@@ -25,6 +27,7 @@ fn of_16k(ttl: u64) -> u64
     }
 }
 
+#[tactic(auto, unfolding(machine::specs::Range::tlbi_exponent))]
 fn of_64k(ttl: u64) -> u64
     ensures { (result ≡ tlbi_exponent 3 ttl) × (result ≤ 63) }
 {
@@ -46,6 +49,7 @@ fn tlbi_exponent(tg: u64, ttl: u64) -> u64
     }
 }
 
+#[tactic(auto, unfolding(machine::specs::Range::tlbip_exponent))]
 fn tlbip_exponent(tg: u64, ttl: u64) -> u64
     requires { (tg < 4) × (ttl < 4) }
     ensures { (result ≡ tlbip_exponent tg ttl) × (result ≤ 63) }
@@ -56,6 +60,7 @@ fn tlbip_exponent(tg: u64, ttl: u64) -> u64
     exponent_of(true, tg, ttl as i8)
 }
 
+#[tactic(auto, unfolding(machine::specs::Range::is_unpredictable))]
 pub fn is_unpredictable(tlbip: bool, o: Operand) -> bool
     requires { Within o }
     ensures { result ≡ is_unpredictable tlbip o }

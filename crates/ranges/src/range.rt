@@ -8,6 +8,7 @@ use crate::multiple::is_unpredictable;
 use machine::{Operand, OperandRead, Range, Ranged, Told};
 use operands::read_operand;
 
+#[tactic(auto, unfolding(machine::specs::Range::range_of))]
 fn range_of(o: Operand) -> Range
     requires { Within o }
     ensures { result ≡ range_of o }
@@ -20,6 +21,7 @@ fn range_of(o: Operand) -> Range
     }
 }
 
+#[tactic(auto, unfolding(machine::specs::Range::ranged_of))]
 pub fn ranged(told: Told, xt: u64, xt2: u64) -> Ranged
     ensures { result ≡ ranged_of told xt xt2 }
 {

@@ -17,6 +17,7 @@ pub fn is_two_ranges(regime: Regime) -> bool
     }
 }
 
+#[tactic(auto, unfolding(machine::specs::Asked::form_of))]
 fn form_of(scope: Scope) -> Form
     ensures { result ≡ form_of scope }
 {
@@ -43,6 +44,7 @@ fn form_of(scope: Scope) -> Form
     }
 }
 
+#[tactic(auto, unfolding(machine::specs::Asked::told_of))]
 fn told_of(state: State, op: Operation, scope: Scope) -> Told
     ensures { result ≡ told_of state op scope }
 {
@@ -69,6 +71,7 @@ fn xt2_used(op: Operation, xt2: u64) -> u64
     if 30 <= op.rt { 0 } else { xt2 }
 }
 
+#[tactic(auto, unfolding(machine::specs::Asked::asked_of))]
 pub fn asked(state: State, op: Operation, scope: Scope, xt: u64, xt2: u64) -> Ranged
     ensures { result ≡ asked_of state op scope xt xt2 }
 {

@@ -6,6 +6,7 @@ use crate::reach::reached_by;
 use machine::{Name, Operation, Regime, Scope, State};
 use processor::{security_in, vmid_in};
 
+#[tactic(auto, unfolding(machine::specs::Access::scope_of))]
 pub fn scope_of(state: State, op: Operation, regime: Regime, stage2: bool, nxs: bool) -> Scope
     ensures { result ≡ scope_of state op regime stage2 nxs }
 {

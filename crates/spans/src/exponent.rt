@@ -13,6 +13,7 @@ fn index_bits(wide: bool, tg: u64) -> u64
     if wide { 2 * tg + 6 } else { 2 * tg + 7 }
 }
 
+#[tactic(auto, unfolding(machine::specs::Span::exponent_at))]
 pub fn exponent_at(wide: bool, tg: u64, height: u64) -> u64
     requires { (tg ≤ 3) × (height ≤ 7) }
     ensures { (result ≡ exponent_at wide tg height) × (result ≤ 16 + 13 * height) }
@@ -21,6 +22,7 @@ pub fn exponent_at(wide: bool, tg: u64, height: u64) -> u64
     10 + 2 * tg + bits * height
 }
 
+#[tactic(auto, unfolding(machine::specs::Span::is_level, machine::specs::Span::exponent_of))]
 pub fn exponent_of(wide: bool, tg: u64, level: i8) -> u64
     requires { (tg ≤ 3) × (is_level level ≡ true) }
     ensures { (result ≡ exponent_of wide tg level) × (result ≤ 68) }
@@ -29,6 +31,7 @@ pub fn exponent_of(wide: bool, tg: u64, level: i8) -> u64
     exponent_at(wide, tg, height)
 }
 
+#[tactic(auto, unfolding(machine::specs::Span::has_span))]
 pub fn has_span(wide: bool, tg: u64, level: i8) -> bool
     ensures { result ≡ has_span wide tg level }
 {

@@ -1,4 +1,6 @@
 // Levels and their spans.
+#![tactic(auto)]
+
 mod exponent;
 mod level;
 mod span;

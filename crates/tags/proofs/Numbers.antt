@@ -178,3 +178,5 @@ placed-number tag =
 
     lowest : (t : ℕ) → t % 64 / 1 % 2 ≡ t % 2
     lowest t = omega arith
+
+pub ruleset numbers = (asids-number, reach-two, reach-one, placed-mask, placed-number)

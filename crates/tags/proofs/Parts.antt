@@ -223,3 +223,6 @@ rest-entry base tag whole company = go (is_rest base tag) refl
     go : (b : Bool) → is_rest base tag ≡ b → b ≡ is_entry base tag
     go true e = sym company ∙ rest-company base tag whole e
     go false e = sym (rest-empty base tag e)
+
+-- what a proof of a slot's tests cites
+pub ruleset parts = (span-numbers, end_none, end-some, no-layout, no_room, end_empty, rest-empty, rest-company)

@@ -7,7 +7,7 @@ use lib.Dec.{leb}
 use borrow.Author.Tests.{leb-true, le-leb}
 use Rattle.laws.proofs.Truth.{and_0, and-1, not_so, clash}
 use Rattle.machine.proofs.Spans.{span-tg-most, span-level}
-use Rattle.machine.proofs.Tags.{legal, entry-back, written-reads, reads-written}
+use Rattle.machine.proofs.Tags.{legal, company-tags, entry-back, written-reads, reads-written}
 use Rattle.machine.specs.Entry.{is_legal}
 use Rattle.machine.specs.Span.{is_level}
 use Rattle.machine.specs.Tag.{Sized, tag_of, is_entry}
@@ -51,3 +51,5 @@ placed-reads e z h = go (is_legal e) refl
 pub unplaced-reads : (e : Entry) → has_places e ≡ false → is_entry e.base 0 ≡ is_legal e
 unplaced-reads e h =
     no-layout e.base 0 (λ (z : ◌≡◌ {A = ℕ} 0 1). omega arith) ∙ sym (not_so (is_legal e) (λ (l : is_legal e ≡ true). clash (legal-places e l) h))
+
+pub ruleset places = (placed-reads, unplaced-reads, company-tags)

@@ -24,6 +24,7 @@ pub fn has_span(place: u64) -> bool
 
 // A table of constants: it is asked of every slot that an insertion passes. The first and the last place have no span, and arms of their own so
 // that the table has all 64 places and none is tested before it is looked up.
+#[tactic(auto, unfolding(crate::specs::Ends::end_in, laws::specs::Every::every, crate::specs::Ends::end_at, machine::specs::Span::exponent_at))]
 pub fn end_in(place: u64) -> u64
     requires { (place < 64) × (not (eqb (end_in place) 0) ≡ true) }
     ensures { result ≡ end_in place }

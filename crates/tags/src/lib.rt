@@ -1,4 +1,6 @@
 // Tags: a slot's base and tag written from an entry, and read as one.
+#![tactic(auto)]
+
 mod end;
 mod number;
 mod passing;

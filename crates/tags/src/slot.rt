@@ -12,6 +12,7 @@ use crate::number::{level_at, regime_at, security_at};
 use machine::{Company, Entry};
 use spans::{bit_of, exponent_at};
 
+#[tactic(auto, unfolding(machine::specs::Tag::company_at))]
 fn company_at(tag: u64) -> Company
     ensures { result ≡ company_at tag }
 {
@@ -26,6 +27,7 @@ fn company_at(tag: u64) -> Company
     }
 }
 
+#[tactic(auto, unfolding(machine::specs::Tag::entry_at))]
 pub fn entry_at(base: u64, tag: u64) -> Entry
     ensures { result ≡ entry_at base tag }
 {
@@ -46,6 +48,7 @@ pub fn entry_at(base: u64, tag: u64) -> Entry
 }
 
 // The exponent of the span of what stands in a tag, which may be no entry's.
+#[tactic(auto, unfolding(machine::specs::Tag::entry_at), using(crate::proofs::Parts::parts))]
 pub fn span_at(tag: u64) -> u64
     ensures { result ≡ span_of (entry_at 0 tag) }
 {
@@ -54,6 +57,7 @@ pub fn span_at(tag: u64) -> u64
 }
 
 // Whose a slot is, by the numbers of its tag: an entry can have that company.
+#[tactic(auto, unfolding(machine::specs::Entry::is_company, machine::specs::Tag::company_at))]
 fn is_company_at(tag: u64) -> bool
     ensures { result ≡ is_company (company_at tag) }
 {
@@ -79,6 +83,7 @@ fn is_company_at(tag: u64) -> bool
 }
 
 // The base is in reach of the tag's company, which has no ASID and no global flag where there are none.
+#[tactic(auto, using(crate::proofs::Numbers::numbers))]
 fn is_reach_at(base: u64, tag: u64) -> bool
     ensures { result ≡ is_reach base tag }
 {
@@ -96,6 +101,7 @@ fn is_reach_at(base: u64, tag: u64) -> bool
 // Where global flag, width, height and leaf bit, side by side, are those of an entry that can stand so: a bit for each of the 64 numbers that they can be.
 const PLACED: u64 = 0xFFF00055550;
 
+#[tactic(auto, using(crate::proofs::Numbers::numbers))]
 fn is_placed_at(tag: u64) -> bool
     ensures { result ≡ is_placed (bit_of tag 49) (pos 3 -ℤ pos (bits 48 46 tag)) (bit_of tag 44) }
 {
@@ -103,6 +109,7 @@ fn is_placed_at(tag: u64) -> bool
 }
 
 // The layout number, nothing above bit 53, and the fields of a legal entry, which is not made: a table's every slot is tested.
+#[tactic(auto, unfolding(machine::specs::Tag::is_entry), using(crate::proofs::Parts::parts))]
 pub fn is_entry(base: u64, tag: u64) -> bool
     ensures { result ≡ is_entry base tag }
 {
@@ -125,6 +132,7 @@ pub fn is_entry(base: u64, tag: u64) -> bool
 
 // What is left to test of a slot whose layout number and company are an entry's, as they are where its lower part is a key. The end is how far the
 // last address of its span lies from its base, which has none of its bits.
+#[tactic(auto, unfolding(crate::specs::Rest::is_rest, machine::specs::Tag::entry_at), using(crate::proofs::Parts::parts))]
 pub fn is_rest(base: u64, tag: u64, end: u64) -> bool
     requires { end ≡ end_of tag }
     ensures { result ≡ is_rest base tag }

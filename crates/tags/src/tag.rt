@@ -9,6 +9,7 @@ use crate::number::{flag, regime_number, security_number};
 use machine::{Company, Entry};
 use spans::{height_of, is_level};
 
+#[tactic(auto, unfolding(machine::specs::Tag::company_tag))]
 pub fn company_tag(company: Company) -> u64
     ensures { (result ≡ company_tag company) × (result < 2 ^ 26) }
 {
@@ -26,12 +27,14 @@ pub fn company_tag(company: Company) -> u64
 }
 
 // Two companies agree: their places in a tag are one number.
+#[tactic(auto, unfolding(machine::specs::Table::same_company), using(crate::proofs::Places::places))]
 pub fn same_company(own: Company, other: Company) -> bool
     ensures { result ≡ same_company own other }
 {
     company_tag(own) == company_tag(other)
 }
 
+#[tactic(auto, unfolding(crate::specs::Places::has_places))]
 fn has_places(entry: Entry) -> bool
     ensures { result ≡ has_places entry }
 {
@@ -45,9 +48,10 @@ fn has_places(entry: Entry) -> bool
 }
 
 // The tag of any entry, and 0, which is none, of one that has no places in it: an entry is legal exactly if its base and this tag read as one.
+#[tactic(auto, unfolding(machine::specs::Tag::is_entry, machine::specs::Entry::is_legal), using(crate::proofs::Places::places))]
 pub fn placed_tag(entry: Entry) -> u64
     ensures value { result ≡ placed_tag entry }
-    ensures result_value { is_entry entry.base result ≡ is_legal entry }
+    ensures legal { is_entry entry.base result ≡ is_legal entry }
 {
     if has_places(entry) {
         return tag_of(entry);
@@ -55,6 +59,7 @@ pub fn placed_tag(entry: Entry) -> u64
     0
 }
 
+#[tactic(auto, unfolding(crate::specs::Places::has_places, machine::specs::Tag::tag_of))]
 fn tag_of(entry: Entry) -> u64
     requires { has_places entry ≡ true }
     ensures { (result ≡ tag_of entry) × Sized entry }

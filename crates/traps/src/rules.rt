@@ -7,6 +7,7 @@ use processor::{el2_enabled, hcrx_live};
 use words::is_odd_pair;
 
 // Absent features, EL0 and odd Rt.
+#[tactic(auto, unfolding(machine::specs::Access::is_barred))]
 pub fn is_barred(state: State, op: Operation) -> bool
     ensures { result ≡ is_barred state op }
 {
@@ -44,6 +45,7 @@ fn is_outer(share: Share) -> bool
 }
 
 // Whether an E1 name is trapped at EL1.
+#[tactic(auto, unfolding(machine::specs::Access::is_trapped))]
 pub fn is_trapped(state: State, op: Operation) -> bool
     ensures { result ≡ is_trapped state op }
 {

@@ -1,4 +1,6 @@
 // Instruction words: the operation word type with `read` and `build`, the row of op1, CRm and op2, and odd pairs.
+#![tactic(auto)]
+
 mod numbers;
 mod pair;
 mod row;

@@ -43,7 +43,7 @@ pub fn name_bits(name: Name) -> u64
 
 // CRm in its place, and what op2 has more than the local one.
 pub fn share_bits(name: Name, share: Share) -> u64
-    ensures name_value { result + op2_of name Share.Local * 32 ≡ crm_of (family_of name) share * 256 + op2_of name share * 32 }
+    ensures sum { result + op2_of name Share.Local * 32 ≡ crm_of (family_of name) share * 256 + op2_of name share * 32 }
     ensures upper_bound { result ≤ 0x600 }
 {
     let shared = shared_bits(share);
@@ -53,8 +53,8 @@ pub fn share_bits(name: Name, share: Share) -> u64
 
 // Stage 2 has a CRm of its own, and another op2 for OS.
 fn is_stage2(name: Name) -> bool
-    ensures s_value { (s : Share) → crm_of (family_of name) s ≡ cond result (stage2_crm s) (share_crm s) }
-    ensures s_value_2 { (s : Share) → op2_of name s ≡ cond result (stage2_op2 s (op2_of name Share.Local) (op2_of name Share.Local + 1)) (op2_of name Share.Local) }
+    ensures crm { (s : Share) → crm_of (family_of name) s ≡ cond result (stage2_crm s) (share_crm s) }
+    ensures op2 { (s : Share) → op2_of name s ≡ cond result (stage2_op2 s (op2_of name Share.Local) (op2_of name Share.Local + 1)) (op2_of name Share.Local) }
 {
     match name {
         Name::RVAE1 => false,
@@ -83,7 +83,7 @@ fn shared_bits(share: Share) -> u64
 
 // A stage 2 name has one more op2 for OS.
 fn stage2_bits(share: Share) -> u64
-    ensures by_index { (op2 : ℕ) → result + op2 * 32 ≡ stage2_crm share * 256 + stage2_op2 share op2 (op2 + 1) * 32 }
+    ensures sum { (op2 : ℕ) → result + op2 * 32 ≡ stage2_crm share * 256 + stage2_op2 share op2 (op2 + 1) * 32 }
     ensures upper_bound { result ≤ 0x600 }
 {
     match share {

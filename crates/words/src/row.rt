@@ -4,6 +4,7 @@ ghost use Rattle.machine.specs.Word.{row_e1, row_el, shared_row, stage2_row, row
 
 use machine::{Name, Row, Share};
 
+#[tactic(auto, unfolding(machine::specs::Word::row_of))]
 pub fn row_of(op1: u8, crm: u8, op2: u8) -> Row
     ensures { result ≡ row_of op1 crm op2 }
 {

@@ -7,7 +7,7 @@ use crate::numbers::{name_bits, share_bits};
 use crate::row_of;
 use machine::{Built, Decoded, Operation, Row};
 
-#[derive(Drop)]
+#[derive(Clone, Copy)]
 pub struct OperationWord {
     pub bits: u64,
 }
@@ -27,6 +27,7 @@ impl OperationWord {
     }
 
     // Whether CRm is one that some operation has: few of the system instructions next to them do.
+    #[tactic(auto, unfolding(crate::specs::Crm::has_crm))]
     pub fn has_crm(word: u64) -> bool
         ensures { result ≡ has_crm (crm_in word) }
     {
@@ -41,6 +42,7 @@ impl OperationWord {
     }
 
     // Any number gets an answer: 2^32 or more has other fixed bits.
+    #[tactic(auto, unfolding(machine::specs::Word::read_of))]
     pub fn read(self) -> Decoded
         ensures { result ≡ read_of self.bits }
     {
@@ -69,6 +71,7 @@ impl OperationWord {
     }
 
     // Any parts get an answer: an Rt of 32 or more has no place in a word.
+    #[tactic(auto, unfolding(machine::specs::Word::built_of, machine::specs::Word::word_of))]
     pub fn build(op: Operation) -> Built
         ensures { result ≡ built_of op }
     {
@@ -88,7 +91,7 @@ impl OperationWord {
 
 // What SYSP has more than SYS: bit 22. Added in `build` it is the flag, shifted; all fixed bits from one function would be a choice of two constants.
 fn sysp_bit(tlbip: bool) -> u64
-    ensures result_value { 0xD5080000 + result ≡ cond tlbip 0xD5480000 0xD5080000 }
+    ensures value { 0xD5080000 + result ≡ cond tlbip 0xD5480000 0xD5080000 }
     ensures upper_bound { result ≤ 0x400000 }
 {
     if tlbip {
