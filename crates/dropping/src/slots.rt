@@ -51,8 +51,8 @@ fn key_of(work: Work) -> u64
 
 // A slot with the key is turned away by its range before the rest of it is looked at, and the key is not looked at again.
 fn is_dropped(work: Work, ends: &[u64; 16], base: u64, tag: u64) -> bool
-    requires tag_value { (tag % 2 ^ 28 ≡ key_of work) × (company_tag work.company < 2 ^ 26) × (work.company.vmid < 2 ^ 16) × AreEnds work.granule ends.now }
-    requires le_granule { (1 ≤ work.granule) × (work.granule ≤ 3) × (is_company work.company ≡ true) }
+    requires keyed { (tag % 2 ^ 28 ≡ key_of work) × (company_tag work.company < 2 ^ 26) × (work.company.vmid < 2 ^ 16) × AreEnds work.granule ends.now }
+    requires legal { (1 ≤ work.granule) × (work.granule ≤ 3) × (is_company work.company ≡ true) }
     ensures { result ≡ drops work base tag 0 }
 {
     if work.last < base {

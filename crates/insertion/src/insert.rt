@@ -9,6 +9,7 @@ use machine::{Entry, Inserted};
 use tables::is_table;
 use tags::{is_entry, placed_tag};
 
+#[tactic(auto, unfolding(machine::specs::Table::inserted_of, machine::specs::Table::insert_table))]
 pub fn insert_entry(table: &mut [u64], entry: Entry, out: u64) -> Inserted
     ensures value { result ≡ inserted_of entry table.old }
     ensures table_after { table.new ≡ insert_table entry out table.old }
@@ -31,6 +32,7 @@ pub fn insert_entry(table: &mut [u64], entry: Entry, out: u64) -> Inserted
 }
 
 // What an entry that is not legal is answered, whatever it is.
+#[tactic(auto, unfolding(machine::specs::Entry::is_legal, machine::specs::Table::inserted_of))]
 pub fn refuse_entry(table: &[u64]) -> Inserted
     ensures { (e : Entry) → is_legal e ≡ false → result ≡ inserted_of e table.now }
 {
@@ -41,6 +43,7 @@ pub fn refuse_entry(table: &[u64]) -> Inserted
 }
 
 // The first word of the lowest slot that reads as empty, or the number of words.
+#[tactic(auto, unfolding(laws::specs::Slots::first))]
 fn first_empty(table: &[u64]) -> usize
     requires { length table.now % 3 ≡ 0 }
     ensures { result ≡ 3 * first is_empty table.now }

@@ -1,7 +1,6 @@
 -- No line is longer than 52 bytes, so that a buffer of 52 always has room for the next word.
-use Rattle.std.proofs.Common.{◌≡◌, ℕ, ◌+◌, ◌-◌, ◌%◌, ◌^◌, ◌<◌, ◌≤◌, Bool, true, false, cond, eqb, List, [], ◌∷◌, ◌++◌, length, sym, refl, ap, ◌∙◌, arith, lit≤, length-append}
+use Rattle.std.proofs.Common.{◌≡◌, ℕ, ◌+◌, ◌-◌, ◌%◌, ◌^◌, ◌<◌, ◌≤◌, Bool, true, false, cond, eqb, List, [], ◌∷◌, ◌++◌, length, refl, arith, lit≤, length-append}
 use native.Mathlib.Decide.{dec_le}
-use borrow.Author.Tests.{eqb-false}
 use Rattle.machine.specs.declared.operation.Name.{Name}
 use Rattle.machine.specs.declared.operation.Name.TheVariants.{
   RVAE1,

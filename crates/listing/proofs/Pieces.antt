@@ -1,6 +1,6 @@
 -- Code listed piece by piece gives the listing of the whole, however it is cut.
-use Rattle.std.proofs.Common.{◌≡◌, ℕ, ◌+◌, ◌-◌, ◌%◌, ◌≤◌, Bool, true, false, cond, leb, List, [], ◌∷◌, ◌++◌, length, take, drop, sym, refl, ap, ◌∙◌, append_assoc, add-zero, arith, take-append-drop, length-take-le}
-use Rattle.machine.specs.Listing.{line_at, word_from, lines_of, tail_of, listing_of, room_for, written_of}
+use Rattle.std.proofs.Common.{◌≡◌, ℕ, ◌+◌, ◌-◌, ◌%◌, ◌≤◌, Bool, true, false, cond, leb, List, [], ◌∷◌, ◌++◌, length, take, drop, sym, ap, ◌∙◌, append_assoc, add-zero, arith, take-append-drop, length-take-le}
+use Rattle.machine.specs.Listing.{line_at, word_from, lines_of, room_for, written_of}
 
 -- the lines of whole words, and then those of the rest
 pub lines_cut : (at : ℕ) (a b : List ℕ) → length a % 4 ≡ 0 → lines_of at (a ++ b) ≡ lines_of at a ++ lines_of (at + length a) b

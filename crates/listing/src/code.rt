@@ -10,7 +10,7 @@ use text::{put_byte, put_number, put_text};
 use words::{OperationWord, is_odd_pair};
 
 // How much of the code has been listed, and how many bytes of text that is.
-#[derive(Drop)]
+#[derive(Clone, Copy)]
 pub struct Listed {
     pub used: usize,
     pub written: usize,

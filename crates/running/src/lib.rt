@@ -1,4 +1,6 @@
 // Run: every step of a list in order, or nothing.
+#![tactic(auto)]
+
 mod refusal;
 mod running;
 

@@ -16,7 +16,7 @@ use works::{nothing_held, resolve};
 pub fn run(table: &mut [u64], state: State, list: &[u64]) -> Ran
     ensures value { result ≡ ran_of state list.now table.old }
     ensures table_after { table.new ≡ run_table state list.now table.old }
-    ensures list_value { list.now ≡ list.now }
+    ensures list_kept { list.exit.now ≡ list.entry.now }
 {
     if !is_table(table.len()) {
         return Ran::BadShape;

@@ -1,4 +1,6 @@
 // Tables of slots: the shape of tables and lists, look up, and a slot read back.
+#![tactic(auto)]
+
 mod lookup;
 mod reading;
 mod shape;

@@ -15,9 +15,10 @@ use tags::{company_tag, entry_at, is_entry, past_others, span_at};
 // What a tag says of a leaf and whose it is: the processor and all above it, the leaf bit, and the company.
 const OWN_LEAF: u64 = 0xFFFA000003FFFFFF;
 
+#[tactic(auto, unfolding(machine::specs::Table::looked_up_of))]
 pub fn look_up(table: &[u64], state: State, regime: Regime, asid: u16, address: u64) -> LookedUp
     ensures value { result ≡ looked_up_of state regime asid address table.now }
-    ensures table_value { table.now ≡ table.now }
+    ensures table_kept { table.exit.now ≡ table.entry.now }
 {
     if !is_table(table.len()) {
         return LookedUp::BadShape;
@@ -40,6 +41,7 @@ pub fn look_up(table: &[u64], state: State, regime: Regime, asid: u16, address: 
 }
 
 // Stage 1 of a regime, with the VMID and the security state that an operation would have.
+#[tactic(auto, unfolding(machine::specs::Table::stage1_of))]
 fn stage1_of(state: State, regime: Regime) -> Company
     ensures { (result ≡ stage1_of state regime) × (result.vmid < 2 ^ 16) }
 {
@@ -57,6 +59,7 @@ fn stage1_of(state: State, regime: Regime) -> Company
 // The lowest slot that matches, or the number of slots. The key is the part of a tag that says whose a slot is. Only a leaf of the own
 // processor and the company translates: one masked compare turns all other slots away. Words are counted, and not slots, so that a turn has
 // one sum.
+#[tactic(auto, unfolding(laws::specs::Slots::first, machine::specs::Table::matches, machine::specs::Tag::company_at))]
 fn first_match(table: &[u64], key: u64, own: u8, asid: u16, address: u64) -> usize
     requires { (length table.now % 3 ≡ 0) × (key % 2 ^ 4 ≡ layout) × (key < 2 ^ 26) }
     ensures { result ≡ first (matches (company_at key) own asid address) table.now }
@@ -77,6 +80,7 @@ fn first_match(table: &[u64], key: u64, own: u8, asid: u16, address: u64) -> usi
 }
 
 // Whether a slot translates the address. Its span turns most slots away before the rest is looked at.
+#[tactic(auto, unfolding(machine::specs::Tag::is_entry, machine::specs::Table::holds_address, machine::specs::Tag::entry_at))]
 fn is_match(own: u8, asid: u16, address: u64, base: u64, tag: u64) -> bool
     ensures { result ≡ (is_entry base tag && holds_address own asid address (entry_at base tag)) }
 {
@@ -95,6 +99,7 @@ fn is_match(own: u8, asid: u16, address: u64, base: u64, tag: u64) -> bool
 }
 
 // An entry of the company translates the address.
+#[tactic(auto, unfolding(machine::specs::Entry::is_legal, machine::specs::Table::holds_address))]
 fn holds_address(entry: Entry, own: u8, asid: u16, address: u64) -> bool
     requires { is_legal entry ≡ true }
     ensures { result ≡ holds_address own asid address entry }

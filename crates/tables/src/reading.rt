@@ -6,9 +6,10 @@ use crate::shape::is_table;
 use machine::SlotRead;
 use tags::{entry_at, is_entry};
 
+#[tactic(auto, unfolding(machine::specs::Table::slot_read_of))]
 pub fn read_slot(table: &[u64], slot: usize) -> SlotRead
     ensures value { result ≡ slot_read_of slot table.now }
-    ensures table_value { table.now ≡ table.now }
+    ensures table_kept { table.exit.now ≡ table.entry.now }
 {
     if !is_table(table.len()) {
         return SlotRead::BadShape;

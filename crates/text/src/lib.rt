@@ -1,4 +1,6 @@
 // Text put together in a buffer: its first n bytes are the text so far, and a put answers how many they are then.
+#![tactic(auto)]
+
 ghost use Rattle.std.specs.Prelude.{[], ◌∷◌, ◌+◌, ◌/◌, ◌%◌, ◌≤◌, ◌<◌, length};
 ghost use Rattle.machine.specs.Text.{decimal_of};
 ghost use Rattle.text.specs.Put.{Put};

@@ -5,7 +5,7 @@ ghost use Rattle.works.specs.Held.{nothing_held, held_in};
 use machine::{Regime, Scope, Security, Work};
 
 // `known` says that the scope is that of the word.
-#[derive(Drop)]
+#[derive(Clone, Copy)]
 pub struct Held {
     pub known: bool,
     pub scope: Scope,
