@@ -10,6 +10,7 @@ use machine::{
 use words::OperationWord;
 
 // Most words are told by their fixed bits, and most system instructions by CRm, before anything else is read.
+#[tactic(auto, unfolding(machine::specs::Word::read_of))]
 pub fn decode(word: u64) -> Decoded
     ensures { Decodes word result }
 {
@@ -47,13 +48,13 @@ pub fn insert(table: &mut [u64], entry: Entry, out: u64) -> Inserted
 }
 
 pub fn look_up(table: &[u64], state: State, regime: Regime, asid: u16, address: u64) -> LookedUp
-    ensures { LooksUp state regime asid address table.now result table.now }
+    ensures { LooksUp state regime asid address table.entry.now result table.exit.now }
 {
     tables::look_up(table, state, regime, asid, address)
 }
 
 pub fn read_slot(table: &[u64], slot: usize) -> SlotRead
-    ensures { ReadsSlot slot table.now result table.now }
+    ensures { ReadsSlot slot table.entry.now result table.exit.now }
 {
     tables::read_slot(table, slot)
 }
@@ -66,21 +67,21 @@ pub fn execute(table: &mut [u64], state: State, word: u64, xt: u64, xt2: u64) ->
 
 pub fn run(table: &mut [u64], state: State, list: &[u64]) -> Ran
     ensures runs { Runs state list.now table.old result table.new }
-    ensures list_value { list.now ≡ list.now }
+    ensures list_kept { list.exit.now ≡ list.entry.now }
 {
     running::run(table, state, list)
 }
 
 pub fn judge(state: State, target: Target, list: &[u64]) -> Judged
     ensures judges { Judges state target list.now result }
-    ensures list_value { list.now ≡ list.now }
+    ensures list_kept { list.exit.now ≡ list.entry.now }
 {
     judge::judge(state, target, list)
 }
 
 pub fn list(code: &[u8], at: u64, out: &mut [u8]) -> Listed
     ensures lists { Lists code.now at out.old result out.new }
-    ensures code_value { code.now ≡ code.now }
+    ensures code_kept { code.exit.now ≡ code.entry.now }
 {
     listing::list_code(code, at, out)
 }

@@ -1,4 +1,6 @@
 // The public calls, each with its promise.
+#![tactic(auto)]
+
 mod entry_points;
 
 pub use entry_points::{

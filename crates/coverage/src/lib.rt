@@ -1,4 +1,6 @@
 // Coverage: the places of a target, and how far a step covers them.
+#![tactic(auto)]
+
 mod asids;
 mod cover;
 mod place;

@@ -8,12 +8,14 @@ use machine::{Entry, Target};
 use spans::has_span;
 
 // Non-leaf levels rising, then leaf levels rising.
+#[tactic(auto, unfolding(machine::specs::Judge::leaf_at))]
 pub fn leaf_at(j: u8) -> bool
     ensures { result ≡ leaf_at j }
 {
     4 <= j
 }
 
+#[tactic(auto, unfolding(machine::specs::Judge::leaf_at, machine::specs::Judge::level_at, machine::specs::Span::is_level))]
 pub fn level_at(j: u8) -> i8
     requires { j < 7 }
     ensures { (result ≡ level_at j) × (is_level result ≡ true) }
@@ -30,6 +32,7 @@ pub fn level_at(j: u8) -> i8
 }
 
 // The kind is asked for, and has a span.
+#[tactic(auto, unfolding(crate::specs::Places::is_asked))]
 pub fn is_asked(target: Target, leaf: bool, level: i8) -> bool
     ensures { result ≡ is_asked target leaf level }
 {

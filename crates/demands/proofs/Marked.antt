@@ -14,7 +14,7 @@ use Rattle.laws.specs.Every.{every, any}
 use Rattle.laws.specs.Mask.{mask_from}
 use Rattle.laws.specs.Slots.{count, first, cleared}
 use Rattle.machine.proofs.Tags.{entry-back}
-use Rattle.machine.specs.Access.{is_barred, is_trapped, reaches, reached_of, scope_of, access_e1, access_stage2, access_of, is_unit64_k}
+use Rattle.machine.specs.Access.{is_barred, is_trapped, reaches, reached_of, scope_of, access_e1, access_stage2, access_of, is_unit_64k}
 use Rattle.machine.specs.Answer.{executed_number, executed_trap, executed_dropped, judged_number, judged_entry}
 use Rattle.machine.specs.Asked.{form_of, told_of, asked_of}
 use Rattle.machine.specs.Entry.{is_company, has_asids, in_reach, is_legal}
@@ -74,7 +74,7 @@ all_shown (e ∷ es) = shown e && all_shown es
 
 computed : all_shown examples ≡ true
 unfolding all_shown same executed_of execute_table resolved_of count cleared drops goes work_of same_company read_of row_of access_of is_barred is_trapped access_e1 access_stage2 scope_of reached_of
-    reaches mask_from el2_enabled security_of security_in vmid_in hcrx_live bad_state bad_fields bad_board domains_agree every is_unit64_k asked_of form_of told_of ranged_of operand_of address_of hint_of range_of
+    reaches mask_from el2_enabled security_of security_in vmid_in hcrx_live bad_state bad_fields bad_board domains_agree every is_unit_64k asked_of form_of told_of ranged_of operand_of address_of hint_of range_of
     length_of is_unpredictable tlbi_exponent is_entry is_legal is_company has_asids in_reach has_span is_level exponent_of exponent_at height_of tag_of company_tag company_at entry_at
     judged_of gap_processor gap_kind gap_base cover_at named_asid free_asid works_of any entry_in leaf_at level_at is_asked is_target are_addresses first
 computed = refl

@@ -1,1 +1,2 @@
 // The front page: the demands as theorems about the public calls, in proofs/, and no code.
+#![tactic(auto)]

@@ -9,7 +9,7 @@ use Rattle.laws.specs.Every.{every, any}
 use Rattle.laws.specs.Mask.{mask_from}
 use Rattle.laws.specs.Slots.{first}
 use Rattle.machine.proofs.Sample.{two, FnXS, no_d128, no_lpa2, at, stage1, stage2, guest}
-use Rattle.machine.specs.Access.{is_barred, is_trapped, reaches, reached_of, scope_of, access_e1, access_e2, access_stage2, access_e3, access_of, is_unit64_k}
+use Rattle.machine.specs.Access.{is_barred, is_trapped, reaches, reached_of, scope_of, access_e1, access_e2, access_stage2, access_e3, access_of, is_unit_64k}
 use Rattle.machine.specs.Asked.{form_of, told_of, asked_of}
 use Rattle.machine.specs.Entry.{is_company, has_asids, in_reach}
 use Rattle.machine.specs.Execute.{resolved_of}
@@ -89,7 +89,7 @@ pub answers :
     × (judged_of guesting marked [] ≡ named 0 0 false (negsuc 0) 0)
 unfolding judged_of gap_processor gap_kind gap_base cover_at named_asid free_asid works_of any entry_in leaf_at level_at is_asked is_target are_addresses first goes same_company resolved_of work_of read_of row_of
     access_of is_barred is_trapped access_e1 access_e2 access_e3 access_stage2 scope_of reached_of reaches mask_from el2_enabled security_of security_in vmid_in hcrx_live bad_state bad_fields bad_board
-    domains_agree every is_unit64_k asked_of form_of told_of ranged_of operand_of address_of hint_of range_of length_of is_unpredictable tlbi_exponent tlbip_exponent is_company has_asids in_reach has_span is_level
+    domains_agree every is_unit_64k asked_of form_of told_of ranged_of operand_of address_of hint_of range_of length_of is_unpredictable tlbi_exponent tlbip_exponent is_company has_asids in_reach has_span is_level
     exponent_of exponent_at height_of
 answers = (refl, refl, refl, refl, refl, refl, refl, refl)
 
@@ -118,7 +118,7 @@ pub targets :
     × (judged_of guesting (all (stage1 EL10 Root 7) 3 0 0) [] ≡ BadTarget)
 unfolding judged_of gap_processor gap_kind gap_base cover_at named_asid free_asid works_of any entry_in leaf_at level_at is_asked is_target are_addresses first goes same_company resolved_of work_of read_of row_of
     access_of is_barred is_trapped access_e1 access_e2 access_e3 access_stage2 scope_of reached_of reaches mask_from el2_enabled security_of security_in vmid_in hcrx_live bad_state bad_fields bad_board
-    domains_agree every is_unit64_k asked_of form_of told_of ranged_of operand_of address_of hint_of range_of length_of is_unpredictable tlbi_exponent tlbip_exponent is_company has_asids in_reach has_span is_level
+    domains_agree every is_unit_64k asked_of form_of told_of ranged_of operand_of address_of hint_of range_of length_of is_unpredictable tlbi_exponent tlbip_exponent is_company has_asids in_reach has_span is_level
     exponent_of exponent_at height_of
 targets = (refl, refl, refl, refl, refl, refl, refl, refl, refl, refl, refl, refl, refl, refl, refl, refl, refl, refl, refl, refl)
 
@@ -134,7 +134,7 @@ pub companies :
     × (judged_of (at 2 (two ∷ no_lpa2 ∷ [])) (all (stage2 EL10 NonSecure 7 false) 3 0x40000000 0x40003FFF) (0xD50C8040 ∷ (2 ^ 46 + 2 ^ 39 + 0x40000) ∷ 0 ∷ []) ≡ Accepted)
 unfolding judged_of gap_processor gap_kind gap_base cover_at named_asid free_asid works_of any entry_in leaf_at level_at is_asked is_target are_addresses first goes same_company resolved_of work_of read_of row_of
     access_of is_barred is_trapped access_e1 access_e2 access_e3 access_stage2 scope_of reached_of reaches mask_from el2_enabled security_of security_in vmid_in hcrx_live bad_state bad_fields bad_board
-    domains_agree every is_unit64_k asked_of form_of told_of ranged_of operand_of address_of hint_of range_of length_of is_unpredictable tlbi_exponent tlbip_exponent is_company has_asids in_reach has_span is_level
+    domains_agree every is_unit_64k asked_of form_of told_of ranged_of operand_of address_of hint_of range_of length_of is_unpredictable tlbi_exponent tlbip_exponent is_company has_asids in_reach has_span is_level
     exponent_of exponent_at height_of
 companies = (refl, refl, refl, refl, refl, refl, refl)
 
@@ -152,7 +152,7 @@ pub asids :
     × (judged_of guesting (one_of 0) (by_asid 0) ≡ Accepted)
 unfolding judged_of gap_processor gap_kind gap_base cover_at named_asid free_asid works_of any entry_in leaf_at level_at is_asked is_target are_addresses first goes same_company resolved_of work_of read_of row_of
     access_of is_barred is_trapped access_e1 access_e2 access_e3 access_stage2 scope_of reached_of reaches mask_from el2_enabled security_of security_in vmid_in hcrx_live bad_state bad_fields bad_board
-    domains_agree every is_unit64_k asked_of form_of told_of ranged_of operand_of address_of hint_of range_of length_of is_unpredictable tlbi_exponent tlbip_exponent is_company has_asids in_reach has_span is_level
+    domains_agree every is_unit_64k asked_of form_of told_of ranged_of operand_of address_of hint_of range_of length_of is_unpredictable tlbi_exponent tlbip_exponent is_company has_asids in_reach has_span is_level
     exponent_of exponent_at height_of
 asids = (refl, refl, refl, refl, refl, refl, refl, refl, refl, refl)
 
@@ -174,7 +174,7 @@ pub kinds :
     × (judged_of guesting (sixteen true 0x40000000 0x40003FFF) [] ≡ named_of true 2 (negsuc 0) 0)
 unfolding judged_of gap_processor gap_kind gap_base cover_at named_asid free_asid works_of any entry_in leaf_at level_at is_asked is_target are_addresses first goes same_company resolved_of work_of read_of row_of
     access_of is_barred is_trapped access_e1 access_e2 access_e3 access_stage2 scope_of reached_of reaches mask_from el2_enabled security_of security_in vmid_in hcrx_live bad_state bad_fields bad_board
-    domains_agree every is_unit64_k asked_of form_of told_of ranged_of operand_of address_of hint_of range_of length_of is_unpredictable tlbi_exponent tlbip_exponent is_company has_asids in_reach has_span is_level
+    domains_agree every is_unit_64k asked_of form_of told_of ranged_of operand_of address_of hint_of range_of length_of is_unpredictable tlbi_exponent tlbip_exponent is_company has_asids in_reach has_span is_level
     exponent_of exponent_at height_of
 kinds = (refl, refl, refl, refl, refl, refl, refl, refl, refl, refl, refl, refl, refl, refl)
 
@@ -193,7 +193,7 @@ pub places :
     × (judged_of guesting (all guest 3 0x3FFFFFFF 0x40001000) (any_asid 0 0 0) ≡ named 0 0 false (pos 1) 0)
 unfolding judged_of gap_processor gap_kind gap_base cover_at named_asid free_asid works_of any entry_in leaf_at level_at is_asked is_target are_addresses first goes same_company resolved_of work_of read_of row_of
     access_of is_barred is_trapped access_e1 access_e2 access_e3 access_stage2 scope_of reached_of reaches mask_from el2_enabled security_of security_in vmid_in hcrx_live bad_state bad_fields bad_board
-    domains_agree every is_unit64_k asked_of form_of told_of ranged_of operand_of address_of hint_of range_of length_of is_unpredictable tlbi_exponent tlbip_exponent is_company has_asids in_reach has_span is_level
+    domains_agree every is_unit_64k asked_of form_of told_of ranged_of operand_of address_of hint_of range_of length_of is_unpredictable tlbi_exponent tlbip_exponent is_company has_asids in_reach has_span is_level
     exponent_of exponent_at height_of
 places = (refl, refl, refl, refl, refl, refl, refl, refl, refl, refl)
 
@@ -211,6 +211,6 @@ pub ends :
     × (judged_of guesting (leaves_of 0 (2 ^ 37 - 1)) (0xD50882E0 ∷ (2 ^ 46 + 3 * 2 ^ 44 + 31 * 2 ^ 39) ∷ 0 ∷ []) ≡ named 0 0 true (pos 1) 0x200000000)
 unfolding judged_of gap_processor gap_kind gap_base cover_at named_asid free_asid works_of any entry_in leaf_at level_at is_asked is_target are_addresses first goes same_company resolved_of work_of read_of row_of
     access_of is_barred is_trapped access_e1 access_e2 access_e3 access_stage2 scope_of reached_of reaches mask_from el2_enabled security_of security_in vmid_in hcrx_live bad_state bad_fields bad_board
-    domains_agree every is_unit64_k asked_of form_of told_of ranged_of operand_of address_of hint_of range_of length_of is_unpredictable tlbi_exponent tlbip_exponent is_company has_asids in_reach has_span is_level
+    domains_agree every is_unit_64k asked_of form_of told_of ranged_of operand_of address_of hint_of range_of length_of is_unpredictable tlbi_exponent tlbip_exponent is_company has_asids in_reach has_span is_level
     exponent_of exponent_at height_of
 ends = (refl, refl, refl, refl, refl, refl, refl, refl, refl, refl)

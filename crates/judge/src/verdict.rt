@@ -15,7 +15,7 @@ use works::{held_in, resolve};
 
 pub fn judge(state: State, target: Target, list: &[u64]) -> Judged
     ensures verdict { Verdict state target list.now result }
-    ensures list_value { list.now ≡ list.now }
+    ensures list_kept { list.exit.now ≡ list.entry.now }
 {
     if !is_list(list.len()) {
         return Judged::BadShape;

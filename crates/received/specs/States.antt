@@ -1,5 +1,5 @@
 -- The processor state that C's record stands for.
-use Rattle.std.specs.Prelude.{ℕ, Bool, cond, ◌&&◌, eqb}
+use Rattle.std.specs.Prelude.{ℕ, Bool, cond, ◌&&◌}
 use Rattle.received.specs.Numbers.{is_flag, flag_in}
 use Rattle.machine.specs.declared.processor.Present.{Present}
 use Rattle.machine.specs.declared.processor.Features.{Features}

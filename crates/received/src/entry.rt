@@ -7,7 +7,7 @@ use machine::{Company, Entry};
 use tags::{regime_at, security_at};
 
 #[repr(C)]
-#[derive(Drop)]
+#[derive(Clone, Copy)]
 pub struct CompanyRecord {
     pub regime: u64,
     pub security: u64,
@@ -18,7 +18,7 @@ pub struct CompanyRecord {
 
 // The level is a signed word.
 #[repr(C)]
-#[derive(Drop)]
+#[derive(Clone, Copy)]
 pub struct EntryRecord {
     pub processor: u64,
     pub company: CompanyRecord,
@@ -42,6 +42,7 @@ pub fn company_fits(company: CompanyRecord) -> bool
         & (company.ns < 2)
 }
 
+#[tactic(auto, unfolding(crate::specs::Entries::company_in))]
 pub fn company_in(company: CompanyRecord) -> Company
     ensures { result ≡ company_in company }
 {
@@ -56,6 +57,7 @@ pub fn company_in(company: CompanyRecord) -> Company
     }
 }
 
+#[tactic(auto, unfolding(crate::specs::Entries::entry_fits))]
 pub fn entry_fits(entry: EntryRecord) -> bool
     ensures { result ≡ entry_fits entry }
 {
@@ -65,6 +67,7 @@ pub fn entry_fits(entry: EntryRecord) -> bool
 }
 
 // A flag that fits is its lowest bit.
+#[tactic(auto, unfolding(crate::specs::Entries::entry_fits, crate::specs::Entries::entry_in))]
 pub fn entry_in(entry: EntryRecord) -> Entry
     requires { entry_fits entry ≡ true }
     ensures { result ≡ entry_in entry }

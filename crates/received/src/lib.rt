@@ -1,5 +1,7 @@
 // C's records of plain integers, and what the calls are given for them. A value that a field cannot have is refused, or becomes one that breaks a rule of
 // the calls.
+#![tactic(auto)]
+
 mod entry;
 mod number;
 mod operand;

@@ -12,6 +12,7 @@ pub fn is_regime(number: u64) -> bool
 }
 
 // -1 to 3, of a signed word; any other word is no level.
+#[tactic(auto, unfolding(crate::specs::Numbers::level_in))]
 pub fn level_in(word: u64) -> i8
     ensures { result ≡ level_in word }
 {
@@ -25,6 +26,7 @@ pub fn level_in(word: u64) -> i8
     }
 }
 
+#[tactic(auto, unfolding(crate::specs::Numbers::level_in))]
 pub fn level_fits(word: u64) -> bool
     ensures { result ≡ is_level (level_in word) }
 {

@@ -5,7 +5,7 @@ ghost use Rattle.received.specs.Operands.{form_at, told_fits, told_in, fields_in
 use machine::{Form, Operand, Told};
 
 #[repr(C)]
-#[derive(Drop)]
+#[derive(Clone, Copy)]
 pub struct ToldRecord {
     pub tlbip: u64,
     pub form: u64,
@@ -14,7 +14,7 @@ pub struct ToldRecord {
 }
 
 #[repr(C)]
-#[derive(Drop)]
+#[derive(Clone, Copy)]
 pub struct FieldsRecord {
     pub asid: u64,
     pub ns: u64,
@@ -25,6 +25,7 @@ pub struct FieldsRecord {
     pub base: u64,
 }
 
+#[tactic(auto, unfolding(crate::specs::Operands::form_at))]
 fn form_at(number: u64) -> Form
     ensures { result ≡ form_at number }
 {
@@ -38,12 +39,14 @@ fn form_at(number: u64) -> Form
 }
 
 // Whether each field has a value that it can have.
+#[tactic(auto, unfolding(crate::specs::Operands::told_fits))]
 pub fn told_fits(told: ToldRecord) -> bool
     ensures { result ≡ told_fits told }
 {
     (told.tlbip < 2) & (told.form < 5) & (told.lpa2 < 2) & (told.unit64k < 2)
 }
 
+#[tactic(auto, unfolding(crate::specs::Operands::told_in))]
 pub fn told_in(told: ToldRecord) -> Told
     ensures { result ≡ told_in told }
 {
@@ -56,6 +59,7 @@ pub fn told_in(told: ToldRecord) -> Told
     }
 }
 
+#[tactic(auto, unfolding(crate::specs::Operands::fields_in))]
 pub fn fields_in(fields: FieldsRecord) -> Operand
     ensures { result ≡ fields_in fields }
 {

@@ -5,7 +5,7 @@ ghost use Rattle.received.specs.Operations.{name_at, share_at, operation_fits, o
 use machine::{Name, Operation, Share};
 
 #[repr(C)]
-#[derive(Drop)]
+#[derive(Clone, Copy)]
 pub struct OperationRecord {
     pub name: u64,
     pub share: u64,
@@ -14,6 +14,7 @@ pub struct OperationRecord {
     pub rt: u64,
 }
 
+#[tactic(auto, unfolding(crate::specs::Operations::name_at))]
 fn name_at(number: u64) -> Name
     ensures { result ≡ name_at number }
 {
@@ -32,6 +33,7 @@ fn name_at(number: u64) -> Name
 }
 
 // Below 3, each bit is a shareability of its own.
+#[tactic(auto, unfolding(crate::specs::Operations::share_at))]
 fn share_at(number: u64) -> Share
     requires { number < 3 }
     ensures { result ≡ share_at number }
@@ -46,6 +48,7 @@ fn share_at(number: u64) -> Share
 }
 
 // Whether each field has a value that it can have.
+#[tactic(auto, unfolding(crate::specs::Operations::operation_fits))]
 pub fn operation_fits(op: OperationRecord) -> bool
     ensures { result ≡ operation_fits op }
 {
@@ -53,6 +56,7 @@ pub fn operation_fits(op: OperationRecord) -> bool
 }
 
 // A flag that fits is its lowest bit.
+#[tactic(auto, unfolding(crate::specs::Operations::operation_fits, crate::specs::Operations::operation_in))]
 pub fn operation_in(op: OperationRecord) -> Operation
     requires { operation_fits op ≡ true }
     ensures { result ≡ operation_in op }

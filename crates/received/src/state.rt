@@ -6,14 +6,14 @@ use machine::{Board, Ds, Features, Flags, Hcr, Hcrx, Present, Scr, State, Traps}
 
 // Which of the upper exception levels there are.
 #[repr(C)]
-#[derive(Drop)]
+#[derive(Clone, Copy)]
 pub struct PresentRecord {
     pub el2: u8,
     pub el3: u8,
 }
 
 #[repr(C)]
-#[derive(Drop)]
+#[derive(Clone, Copy)]
 pub struct FeaturesRecord {
     pub tlbirange: u8,
     pub tlbios: u8,
@@ -28,7 +28,7 @@ pub struct FeaturesRecord {
 
 // SCR_EL3.
 #[repr(C)]
-#[derive(Drop)]
+#[derive(Clone, Copy)]
 pub struct ScrRecord {
     pub ns: u8,
     pub nse: u8,
@@ -39,7 +39,7 @@ pub struct ScrRecord {
 
 // HCR_EL2.
 #[repr(C)]
-#[derive(Drop)]
+#[derive(Clone, Copy)]
 pub struct HcrRecord {
     pub e2h: u8,
     pub tge: u8,
@@ -51,7 +51,7 @@ pub struct HcrRecord {
 
 // HCRX_EL2.
 #[repr(C)]
-#[derive(Drop)]
+#[derive(Clone, Copy)]
 pub struct HcrxRecord {
     pub fnxs: u8,
     pub fgtnxs: u8,
@@ -59,7 +59,7 @@ pub struct HcrxRecord {
 
 // One flag for each shareability.
 #[repr(C)]
-#[derive(Drop)]
+#[derive(Clone, Copy)]
 pub struct FlagsRecord {
     pub local: u8,
     pub inner: u8,
@@ -68,7 +68,7 @@ pub struct FlagsRecord {
 
 // The fine-grained traps of HFGITR_EL2, one flag for each E1 name and shareability.
 #[repr(C)]
-#[derive(Drop)]
+#[derive(Clone, Copy)]
 pub struct TrapsRecord {
     pub rvae1: FlagsRecord,
     pub rvaae1: FlagsRecord,
@@ -78,7 +78,7 @@ pub struct TrapsRecord {
 
 // DS of TCR_EL1, TCR_EL2, TCR_EL3 and VTCR_EL2.
 #[repr(C)]
-#[derive(Drop)]
+#[derive(Clone, Copy)]
 pub struct DsRecord {
     pub el1: u8,
     pub el2: u8,
@@ -87,7 +87,7 @@ pub struct DsRecord {
 }
 
 #[repr(C)]
-#[derive(Drop)]
+#[derive(Clone, Copy)]
 pub struct BoardRecord {
     pub own: u8,
     pub count: u8,
@@ -98,7 +98,7 @@ pub struct BoardRecord {
 // The flags come first and the domains last: a caller copies the record sixteen bytes at a time, and its last sixteen by themselves, so that what is loaded
 // here at once lies in one such piece. A load across two of them would wait for both.
 #[repr(C)]
-#[derive(Drop)]
+#[derive(Clone, Copy)]
 pub struct StateRecord {
     pub present: PresentRecord,
     pub features: FeaturesRecord,
@@ -255,6 +255,7 @@ fn board_in(board: BoardRecord) -> Board
     }
 }
 
+#[tactic(auto, unfolding(crate::specs::States::state_fits))]
 fn state_fits(state: StateRecord) -> bool
     ensures { result ≡ state_fits state }
 {
@@ -276,6 +277,7 @@ fn el_in(state: StateRecord) -> u8
 
 // Registers of two or four flags are made in their place: of a function's result the compiler would make one number, flag by flag, where it
 // compares sixteen flags at once.
+#[tactic(auto, unfolding(crate::specs::States::state_in))]
 pub fn state_in(state: StateRecord) -> State
     ensures { result ≡ state_in state }
 {

@@ -6,7 +6,7 @@ use crate::entry::{CompanyRecord, company_fits, company_in};
 use machine::Target;
 
 #[repr(C)]
-#[derive(Drop)]
+#[derive(Clone, Copy)]
 pub struct TargetRecord {
     pub company: CompanyRecord,
     pub wide: u64,
@@ -19,6 +19,7 @@ pub struct TargetRecord {
     pub last: u64,
 }
 
+#[tactic(auto, unfolding(crate::specs::Targets::target_fits))]
 fn target_fits(target: TargetRecord) -> bool
     ensures { result ≡ target_fits target }
 {
@@ -37,6 +38,7 @@ fn processors_in(target: TargetRecord) -> u64
     }
 }
 
+#[tactic(auto, unfolding(crate::specs::Targets::target_in))]
 pub fn target_in(target: TargetRecord) -> Target
     ensures { result ≡ target_in target }
 {

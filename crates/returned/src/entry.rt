@@ -8,6 +8,7 @@ use spans::{height_of, is_level};
 use tags::{flag, regime_number, security_number};
 
 // A level as a signed word: 3 less its height, and -1, whose height is 4, wraps.
+#[tactic(auto, unfolding(crate::specs::Words::level_word))]
 fn level_word(level: i8) -> u64
     ensures { result ≡ level_word level }
 {
@@ -19,6 +20,7 @@ fn level_word(level: i8) -> u64
 }
 
 // The fields of an entry, and a word behind them.
+#[tactic(auto, unfolding(crate::specs::Words::entry_words))]
 pub fn entry_words(entry: Entry, behind: u64) -> [u64; 15]
     ensures { result ≡ entry_words entry behind }
 {
@@ -54,6 +56,7 @@ pub fn entry_words(entry: Entry, behind: u64) -> [u64; 15]
 }
 
 // Zeros where an entry would be, and a word behind them.
+#[tactic(auto, using(crate::proofs::Words::no_words))]
 pub fn no_entry(behind: u64) -> [u64; 15]
     ensures { result ≡ entry_words no_entry behind }
 {

@@ -1,4 +1,6 @@
 // What the calls answer, as C gets it: a number, and the words of a record. What an answer does not name is 0.
+#![tactic(auto)]
+
 mod entry;
 mod numbers;
 mod operand;

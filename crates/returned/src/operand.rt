@@ -4,6 +4,7 @@ ghost use Rattle.returned.specs.Words.{fields_words, read_words, written_words};
 
 use machine::{Operand, OperandRead, OperandWritten};
 
+#[tactic(auto, unfolding(crate::specs::Words::fields_words))]
 fn fields_words(fields: Operand) -> [u64; 7]
     ensures { result ≡ fields_words fields }
 {
@@ -18,6 +19,7 @@ fn fields_words(fields: Operand) -> [u64; 7]
     ]
 }
 
+#[tactic(auto, unfolding(crate::specs::Words::fields_words))]
 pub fn read_words(read: OperandRead) -> [u64; 7]
     ensures { result ≡ read_words read }
 {

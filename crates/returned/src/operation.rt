@@ -42,6 +42,7 @@ pub fn decoded_words(decoded: Decoded) -> [u64; 5]
     }
 }
 
+#[tactic(auto, unfolding(crate::specs::Words::operation_words))]
 fn operation_words(op: Operation) -> [u64; 5]
     ensures { result ≡ operation_words op }
 {

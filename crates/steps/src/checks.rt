@@ -8,7 +8,7 @@ use tags::same_company;
 
 // The first step that is refused and the first of another company, each the number of steps where there is none; the processors that every
 // step reaches and the ASIDs below 16 that one uses, a bit for each, number 0 lowest.
-#[derive(Drop)]
+#[derive(Clone, Copy)]
 pub struct Checked {
     pub refused: usize,
     pub outside: usize,

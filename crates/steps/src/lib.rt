@@ -1,4 +1,6 @@
 // Steps: the work of a list's step, and what the works say together: which are refused, of another company, what all reach and some use.
+#![tactic(auto)]
+
 mod checks;
 mod steps;
 

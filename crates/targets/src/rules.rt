@@ -14,6 +14,7 @@ fn are_processors(state: State, processors: u64) -> bool
 }
 
 // First not above last, both in one legal half, or both below 2^56.
+#[tactic(auto, unfolding(machine::specs::Target::are_addresses))]
 fn are_addresses(company: Company, first: u64, last: u64) -> bool
     ensures { result ≡ are_addresses company first last }
 {
@@ -24,6 +25,7 @@ fn are_addresses(company: Company, first: u64, last: u64) -> bool
     (first <= last) & low & high & (!two | half)
 }
 
+#[tactic(auto, unfolding(machine::specs::Target::is_target))]
 pub fn is_target(state: State, target: Target) -> bool
     requires { state.board.count ≤ 8 }
     ensures { result ≡ is_target state target }
