@@ -81,7 +81,7 @@ fn part_seen(code: &[u8], room: usize) -> Seen {
 }
 
 // How much of the code is listed, and how much text that is.
-#[derive(Drop)]
+#[derive(Clone, Copy)]
 struct Place {
     used: usize,
     written: usize,

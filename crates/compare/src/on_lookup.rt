@@ -8,7 +8,7 @@ use inputs::{
 use machine::{Company, Regime, State, Work};
 
 // What is asked: a state, a regime, an ASID and an address.
-#[derive(Drop)]
+#[derive(Clone, Copy)]
 struct Asked {
     state: State,
     regime: Regime,

@@ -3,7 +3,7 @@ use crate::tally::Seen;
 use machine::{Executed, Inserted, LookedUp, Ran};
 use second_tables::Answer;
 
-#[derive(Drop)]
+#[derive(Clone, Copy)]
 pub struct Reply {
     pub number: u64,
     pub value: u64,

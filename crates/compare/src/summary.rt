@@ -1,53 +1,55 @@
 // The summary: a line a call, and the totals.
 use crate::tally::Tally;
-use libc::STDOUT_FILENO;
+use std::io;
 
-fn number(n: u64) {
-    io::print_decimal(STDOUT_FILENO, n);
+fn number(rt: &impl Print, n: u64) -> io::Result<()> {
+    rt.print(n)
 }
 
-fn text(bytes: &[u8]) {
-    io::write_all(STDOUT_FILENO, bytes);
+fn text(rt: &impl Print, bytes: &[u8]) -> io::Result<()> {
+    rt.write_all(bytes)
 }
 
 // The call's name, its inputs, how many got each answer, and how many differ; and where the first of these stands.
-pub fn line(name: &[u8], tally: Tally) {
-    text(name);
-    text(b": ");
-    number(tally.inputs);
-    text(b" inputs;");
-    answers(tally);
-    text(b"; ");
-    number(tally.differences);
-    text(b" differences");
+pub fn line(rt: &impl Print, name: &[u8], tally: Tally) -> io::Result<()> {
+    text(rt, name)?;
+    text(rt, b": ")?;
+    number(rt, tally.inputs)?;
+    text(rt, b" inputs;")?;
+    answers(rt, tally)?;
+    text(rt, b"; ")?;
+    number(rt, tally.differences)?;
+    text(rt, b" differences")?;
     if tally.differences > 0 {
-        text(b", the first at input ");
-        number(tally.first);
+        text(rt, b", the first at input ")?;
+        number(rt, tally.first)?;
     }
-    text(b"\n");
+    text(rt, b"\n")
 }
 
-fn answers(tally: Tally) {
+fn answers(rt: &impl Print, tally: Tally) -> io::Result<()> {
     for k in 0..15usize {
-        answer(tally, k);
+        answer(rt, tally, k)?;
     }
+    Ok(())
 }
 
-fn answer(tally: Tally, k: usize) {
+fn answer(rt: &impl Print, tally: Tally, k: usize) -> io::Result<()> {
     if k < 15 {
         let n = tally.answers[k];
         if n > 0 {
-            text(b" ");
-            number(k as u64);
-            text(b" x ");
-            number(n);
+            text(rt, b" ")?;
+            number(rt, k as u64)?;
+            text(rt, b" x ")?;
+            number(rt, n)?;
         }
     }
+    Ok(())
 }
 
-pub fn totals(inputs: u64, differences: u64) {
-    number(inputs);
-    text(b" inputs, ");
-    number(differences);
-    text(b" differences\n");
+pub fn totals(rt: &impl Print, inputs: u64, differences: u64) -> io::Result<()> {
+    number(rt, inputs)?;
+    text(rt, b" inputs, ")?;
+    number(rt, differences)?;
+    text(rt, b" differences\n")
 }

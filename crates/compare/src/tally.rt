@@ -1,14 +1,14 @@
 // What is counted of a call: inputs, answers by number, and differences.
 
 // One input: the proved room's answer number, and whether the second model agrees in everything.
-#[derive(Drop)]
+#[derive(Clone, Copy)]
 pub struct Seen {
     pub number: u64,
     pub same: bool,
 }
 
 // `first` is the place of the first input that differs, counted from 0.
-#[derive(Drop)]
+#[derive(Clone, Copy)]
 pub struct Tally {
     pub inputs: u64,
     pub answers: [u64; 15],

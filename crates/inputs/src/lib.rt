@@ -1,4 +1,6 @@
 // Inputs for comparing: states, words, operands, slots, lists and targets, drawn from a seed or placed at a corner of a rule.
+#![tactic(auto)]
+
 mod exponents;
 mod filling;
 mod going;

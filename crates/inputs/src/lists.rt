@@ -9,7 +9,7 @@ use crate::steps::{
 use machine::State;
 
 // How a list is made: of what kind, how many steps it has, how many words are lent, and which step is spoiled (none at 99).
-#[derive(Drop)]
+#[derive(Clone, Copy)]
 pub struct Plan {
     pub kind: u64,
     pub steps: u64,

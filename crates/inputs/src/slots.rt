@@ -5,7 +5,7 @@ use crate::numbers::{height_of, regime_number, security_number};
 use crate::seeds::{below, draw, flip, power};
 use machine::{Company, Entry, Work};
 
-#[derive(Drop)]
+#[derive(Clone, Copy)]
 pub struct SlotWords {
     pub base: u64,
     pub tag: u64,

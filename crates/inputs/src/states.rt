@@ -4,7 +4,7 @@ use crate::turns::turned;
 use machine::{Board, Ds, Features, Flags, Hcr, Hcrx, Present, Scr, State, Traps};
 
 // What makes a shape: where the processor is, and in which world.
-#[derive(Drop)]
+#[derive(Clone, Copy)]
 struct Shape {
     el: u8,
     el2: bool,

@@ -4,7 +4,7 @@ use crate::operations::{damaged, given, operation_for, word_of};
 use crate::seeds::{below, down, draw, flip, number16, once_in, power};
 use machine::{Access, Operation, State};
 
-#[derive(Drop)]
+#[derive(Clone, Copy)]
 pub struct Step {
     pub word: u64,
     pub xt: u64,
@@ -12,7 +12,7 @@ pub struct Step {
 }
 
 // The fields of an operand before they are put into words; `field` is the base as the word holds it.
-#[derive(Drop)]
+#[derive(Clone, Copy)]
 pub struct Parts {
     pub top: u64,
     pub tg: u64,

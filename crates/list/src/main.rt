@@ -1,6 +1,6 @@
 // Lists the operations in the A64 code on standard input.
-use libc::{STDIN_FILENO, STDOUT_FILENO};
+#![tactic(auto)]
 
-fn main() {
-    stream::list_stream(STDIN_FILENO, STDOUT_FILENO, 0, 65536);
+fn main(rt: HostRuntime) -> anyhow::Result<()> {
+    stream::list_stream(&mut rt.stdin(), &mut rt.stdout(), 0, 65536)
 }

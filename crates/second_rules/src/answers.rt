@@ -3,7 +3,7 @@
 // `number`: 0 runs, 3 UNDEFINED, 4 trapped to EL2 with `value`, 5 ends without effect. `regime`: 0 EL1&0, 1 EL2&0, 2 EL2, 3 EL3;
 // `security`: 0 Secure, 1 Non-secure, 2 Realm, 3 Root. `nxs` says that it acts as NXS, `asid` that an ASID applies, `last` that the
 // name has L. All but number and value are 0 where it does not run.
-#[derive(Drop)]
+#[derive(Clone, Copy)]
 pub struct Outcome {
     pub number: u8,
     pub value: u8,

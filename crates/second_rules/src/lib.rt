@@ -1,4 +1,6 @@
 // The processor state's rules and the access rules, as ladders in the order of the requirements.
+#![tactic(auto)]
+
 mod access;
 mod answers;
 mod bad;

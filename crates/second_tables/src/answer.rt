@@ -2,7 +2,7 @@
 use crate::entry::nothing;
 use machine::Entry;
 
-#[derive(Drop)]
+#[derive(Clone, Copy)]
 pub struct Answer {
     pub number: u8,
     pub value: u64,
@@ -10,7 +10,7 @@ pub struct Answer {
     pub examined: u64,
 }
 
-#[derive(Drop)]
+#[derive(Clone, Copy)]
 pub struct Verdict {
     pub number: u8,
     pub step: u64,

@@ -1,4 +1,6 @@
 // The second model's operands, entries, tables, execution and judging, read off the requirements a second time, to be compared.
+#![tactic(auto)]
+
 mod answer;
 mod asids;
 mod bases;

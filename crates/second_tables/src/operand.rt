@@ -5,7 +5,7 @@ use crate::span::granule_exponent;
 use machine::{Form, Operand, Told};
 use std::num::wrapping_add_u64;
 
-#[derive(Drop)]
+#[derive(Clone, Copy)]
 pub struct Fields {
     pub number: u8,
     pub asid: u64,
@@ -17,7 +17,7 @@ pub struct Fields {
     pub base: u64,
 }
 
-#[derive(Drop)]
+#[derive(Clone, Copy)]
 pub struct Words {
     pub number: u8,
     pub xt: u64,

@@ -5,7 +5,7 @@ use machine::{Form, State, Told};
 use second_rules::{Outcome, outcome, unit_64k};
 use second_words::{Named, decode};
 
-#[derive(Drop)]
+#[derive(Clone, Copy)]
 pub struct Step {
     pub number: u8,
     pub outcome: Outcome,

@@ -5,7 +5,7 @@ use crate::numbers::{number_of_regime, number_of_security, regime_of, security_s
 use machine::{Company, Entry};
 use std::num::wrapping_add_u64;
 
-#[derive(Drop)]
+#[derive(Clone, Copy)]
 pub struct Slot {
     pub empty: bool,
     pub entry: Entry,

@@ -24,7 +24,7 @@ const TENS: [u64; 20] = [
     1,
 ];
 
-#[derive(Drop)]
+#[derive(Clone, Copy)]
 struct Taken {
     digit: u8,
     left: u64,

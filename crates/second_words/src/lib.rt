@@ -1,4 +1,6 @@
 // Instruction words and the listing's text, read off tables that are searched.
+#![tactic(auto)]
+
 mod digits;
 mod line;
 mod listing;

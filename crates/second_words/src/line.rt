@@ -1,7 +1,7 @@
 // A line of text, byte by byte, and its copy behind what stands in a buffer already.
 
 // The longest line has an offset of 20 digits and 32 other bytes, so that there is always room.
-#[derive(Drop)]
+#[derive(Clone, Copy)]
 pub struct Line {
     pub bytes: [u8; 64],
     pub len: usize,

@@ -2,7 +2,7 @@
 
 // `name`: 0 RVAE1, 1 RVAAE1, 2 RVALE1, 3 RVAALE1, 4 RVAE2, 5 RVALE2, 6 RVAE3, 7 RVALE3, 8 RIPAS2E1, 9 RIPAS2LE1;
 // `share`: 0 local, 1 IS, 2 OS.
-#[derive(Drop)]
+#[derive(Clone, Copy)]
 pub struct Named {
     pub known: bool,
     pub name: u8,

@@ -1,36 +1,55 @@
-// The listing of what a descriptor gives, written to another: the shell round the proved listing of a piece.
-ghost use Rattle.std.specs.Prelude.{◌≡◌, ◌+◌, ◌<◌, ◌≤◌, length, take, drop};
+// The listing of what a reader gives, written to a writer: the shell round the proved listing of a piece.
+#![tactic(auto)]
+
+ghost use Rattle.std.specs.Prelude.{◌≡◌, ◌+◌, ◌<◌, ◌≤◌, length, take, drop, IfOk};
+
+use anyhow::{Context, Result};
+use std::io;
+use std::io::{Read, Write};
 
 // Lists the code that `input` gives to `output`. Its first byte has the offset `at`, and no more than `most` bytes are
-// read at a time. A word that is cut by a read is held over to the next.
-pub fn list_stream(input: i32, output: i32, at: u64, most: usize) {
-    let mut code = io::large_buffer();
-    let mut text = io::large_buffer();
-    stream_by(input, output, at, most, &mut code, &mut text);
+// read at a time. A word that is cut by a read is held over to the next. A read that fails ends the listing as the end of
+// the input does, and then is the error; a write that fails ends it at once.
+pub fn list_stream<R: Read, W: Write>(
+    input: &mut R,
+    output: &mut W,
+    at: u64,
+    most: usize,
+) -> Result<()> {
+    let mut code = [0u8; 65536];
+    let mut text = [0u8; 65536];
+    stream_by(input, output, at, most, &mut code, &mut text)
 }
 
 // A proved loop has to end, and nothing says that an input does. So it counts its turns down, from a number that no
 // run uses up.
-fn stream_by(input: i32, output: i32, at: u64, most: usize, code: &mut [u8], text: &mut [u8])
+fn stream_by<R: Read, W: Write>(
+    input: &mut R,
+    output: &mut W,
+    at: u64,
+    most: usize,
+    code: &mut [u8],
+    text: &mut [u8],
+) -> Result<()>
     requires { (8 ≤ length code.old) × (52 ≤ length text.old) }
 {
     let mut offset = at;
     let mut held = 0;
     let mut turns = u64::MAX;
     while 0 < turns {
-        let turn = next_piece(input, output, offset, most, held, code, text);
+        let turn = next_piece(input, output, offset, most, held, code, text)?;
         if !turn.more {
-            write_tail(turn.held, output, text);
-            return;
+            return write_tail(turn.held, output, text);
         }
         held = turn.held;
-        offset = std::num::wrapping_add_u64(offset, turn.used as u64);
+        offset = offset.wrapping_add(turn.used as u64);
         turns -= 1;
     }
+    Ok(())
 }
 
 // What a piece leaves: bytes held over at the front of the buffer, bytes that are listed, and whether to go on.
-#[derive(Drop)]
+#[derive(Clone, Copy)]
 struct Turn {
     held: usize,
     used: usize,
@@ -38,55 +57,46 @@ struct Turn {
 }
 
 // Reads a piece behind the bytes held over and lists it.
-fn next_piece(
-    input: i32,
-    output: i32,
+fn next_piece<R: Read, W: Write>(
+    input: &mut R,
+    output: &mut W,
     at: u64,
     most: usize,
     held: usize,
     code: &mut [u8],
     text: &mut [u8],
-) -> Turn
+) -> Result<Turn>
     requires { (held ≤ 3) × (8 ≤ length code.old) × (52 ≤ length text.old) }
-    ensures { result.held ≤ 3 }
+    ensures { IfOk result (λ t. t.held ≤ 3) }
 {
     let end = piece_end(held, most, code.len());
-    let n = held + read_more(input, code, held, end);
+    let read = match read_more(input, code, held, end) {
+        Ok(read) => read,
+        Err(error) => {
+            write_tail(held, output, text)?;
+            return Err(error).context("input");
+        }
+    };
+    let n = held + read;
     if n == held {
-        return Turn {
+        return Ok(Turn {
             held,
             used: 0,
             more: false,
-        };
+        });
     }
-    let passed = list_words(&code[..n], at, output, text);
-    let used = passed.used;
+    let used = list_words(&code[..n], at, output, text)?;
     let kept = keep_rest(code, used, n);
-    if passed.ok {
-        Turn {
-            held: kept,
-            used,
-            more: true,
-        }
-    } else {
-        Turn {
-            held: 0,
-            used,
-            more: false,
-        }
-    }
+    Ok(Turn {
+        held: kept,
+        used,
+        more: true,
+    })
 }
 
-fn write_tail(left: usize, output: i32, text: &mut [u8]) {
+fn write_tail<W: Write>(left: usize, output: &mut W, text: &mut [u8]) -> Result<()> {
     let k = listing::list_tail(left, text);
-    io::write_all(output, &text[..k]);
-}
-
-// How many bytes are done with, and whether the output took their lines.
-#[derive(Drop)]
-struct Passed {
-    used: usize,
-    ok: bool,
+    output.write_all(&text[..k]).context("output")
 }
 
 // Where the next read ends: `most` bytes behind those held over, but at least one and within the buffer.
@@ -103,57 +113,37 @@ fn piece_end(held: usize, most: usize, room: usize) -> usize
     held + most
 }
 
-// How many bytes were read into a part of the buffer: none at the end of the input, and where the read fails, which it
-// says.
-fn read_more(input: i32, code: &mut [u8], from: usize, to: usize) -> usize
+// How many bytes were read into a part of the buffer: none at the end of the input.
+fn read_more<R: Read>(input: &mut R, code: &mut [u8], from: usize, to: usize) -> io::Result<usize>
     requires { (from ≤ to) × (to ≤ length code.old) }
-    ensures { from + result ≤ to }
+    ensures { IfOk result (λ n. from + n ≤ to) }
 {
-    let got = libc::read(input, &mut code[from..to]);
-    if got < 0 {
-        os::fail(b"input");
-        return 0;
-    }
-    io::count(got, &code[from..to])
+    input.read(&mut code[from..to])
 }
 
-// Lists every whole word of the code, unless a write fails.
-fn list_words(code: &[u8], at: u64, output: i32, text: &mut [u8]) -> Passed
+// Lists every whole word of the code, unless a write fails, and answers how many bytes those are.
+fn list_words<W: Write>(code: &[u8], at: u64, output: &mut W, text: &mut [u8]) -> Result<usize>
     requires { 52 ≤ length text.old }
-    ensures { (length code.now < result.used + 4) × (result.used ≤ length code.now) }
+    ensures { IfOk result (λ used. (length code.now < used + 4) × (used ≤ length code.now)) }
 {
     let mut i = 0;
     while 4 <= code.len() - i {
-        let passed = list_some(
-            &code[i..],
-            std::num::wrapping_add_u64(at, i as u64),
-            output,
-            text,
-        );
-        if !passed.ok {
-            return Passed {
-                used: code.len(),
-                ok: false,
-            };
-        }
-        i += passed.used;
+        i += list_some(&code[i..], at.wrapping_add(i as u64), output, text)?;
     }
-    Passed { used: i, ok: true }
+    Ok(i)
 }
 
-// Lists as many words as the buffer has room for, at least one, and says where the write fails.
-fn list_some(code: &[u8], at: u64, output: i32, text: &mut [u8]) -> Passed
+// Lists as many words as the buffer has room for, at least one, and answers how many bytes those are.
+#[tactic(auto, using(listing::proofs::Longest::progress))]
+fn list_some<W: Write>(code: &[u8], at: u64, output: &mut W, text: &mut [u8]) -> Result<usize>
     requires { (4 ≤ length code.now) × (52 ≤ length text.old) }
-    ensures { (4 ≤ result.used) × (result.used ≤ length code.now) }
+    ensures { IfOk result (λ used. (4 ≤ used) × (used ≤ length code.now)) }
 {
     let listed = listing::list_code(code, at, text);
     let used = listed.used;
     let written = listed.written;
-    let ok = io::write_all(output, &text[..written]);
-    if !ok {
-        os::fail(b"output");
-    }
-    Passed { used, ok }
+    output.write_all(&text[..written]).context("output")?;
+    Ok(used)
 }
 
 // Moves the bytes between two places to the front, and answers how many they are.

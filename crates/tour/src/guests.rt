@@ -4,6 +4,7 @@ use machine::{
     Board, Company, Ds, Entry, Features, Flags, Hcr, Hcrx, Inserted, Present, Regime, Scr,
     Security, State, Traps,
 };
+use std::io;
 
 // EL1&0, Non-secure.
 pub fn company(vmid: u16) -> Company {
@@ -67,27 +68,28 @@ fn block(vmid: u16, level: i8, base: u64) -> Entry {
     }
 }
 
-pub fn fill(table: &mut [u64; 48]) {
+pub fn fill(rt: &impl Print, table: &mut [u64; 48]) -> io::Result<()> {
     for k in 0..9u64 {
-        put(table, k);
+        put(rt, table, k)?;
     }
+    Ok(())
 }
 
-fn put(table: &mut [u64; 48], k: u64) {
+fn put(rt: &impl Print, table: &mut [u64; 48], k: u64) -> io::Result<()> {
     let inserted = calls::insert(table, entry(k), output(k));
     match inserted {
-        Inserted::At(_) => {}
-        Inserted::BadShape => left_out(k, 13),
-        Inserted::Illegal => left_out(k, 8),
-        Inserted::Full => left_out(k, 9),
+        Inserted::At(_) => Ok(()),
+        Inserted::BadShape => left_out(rt, k, 13),
+        Inserted::Illegal => left_out(rt, k, 8),
+        Inserted::Full => left_out(rt, k, 9),
     }
 }
 
-fn left_out(k: u64, answer: u64) {
-    number(b"entry ", k);
-    text(b" ");
-    refused(answer);
-    text(b"\n");
+fn left_out(rt: &impl Print, k: u64, answer: u64) -> io::Result<()> {
+    number(rt, b"entry ", k)?;
+    text(rt, b" ")?;
+    refused(rt, answer)?;
+    text(rt, b"\n")
 }
 
 // The guest runs at EL1 under a host at EL2, on a board of one processor.

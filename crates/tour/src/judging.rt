@@ -1,17 +1,18 @@
 // A list of one step, judged against four pages of guest 7.
 use crate::guests::{company, state};
 use crate::say::{hex, number, refused, text};
-use crate::steps::{WORD, tell_step};
-use crate::words::tell_entry;
+use crate::told_entry::tell_entry;
+use crate::told_step::{WORD, tell_step};
 use machine::{Judged, Target};
+use std::io;
 
-pub fn tell_target() {
+pub fn tell_target(rt: &impl Print) -> io::Result<()> {
     let target = target();
     let company = target.company;
-    number(b"to clear: all of guest ", company.vmid as u64);
-    hex(b" from ", target.first, 1);
-    hex(b" to ", target.last, 1);
-    text(b"\n");
+    number(rt, b"to clear: all of guest ", company.vmid as u64)?;
+    hex(rt, b" from ", target.first, 1)?;
+    hex(rt, b" to ", target.last, 1)?;
+    text(rt, b"\n")
 }
 
 // Every ASID and every level, on the one processor.
@@ -29,26 +30,29 @@ fn target() -> Target {
     }
 }
 
-pub fn judge_step(operand: u64) {
-    text(b"step 0: ");
-    tell_step(operand);
+pub fn judge_step(rt: &impl Print, operand: u64) -> io::Result<()> {
+    text(rt, b"step 0: ")?;
+    tell_step(rt, operand)?;
     let list = [WORD, operand, 0];
-    tell_verdict(&list);
-    text(b"\n");
+    tell_verdict(rt, &list)?;
+    text(rt, b"\n")
 }
 
-fn tell_verdict(list: &[u64; 3]) {
+fn tell_verdict(rt: &impl Print, list: &[u64; 3]) -> io::Result<()> {
     let judged = calls::judge(state(7), target(), list);
     match judged {
-        Judged::Accepted => text(b"accepted, answer 0"),
-        Judged::BadShape => refused(13),
-        Judged::BadState => refused(2),
-        Judged::BadTarget => refused(8),
-        Judged::Refused(step) => number(b"refused, answer 10, at step ", step as u64),
-        Judged::Outside(step) => number(b"refused, answer 11, at step ", step as u64),
+        Judged::Accepted => text(rt, b"accepted, answer 0"),
+        Judged::BadShape => refused(rt, 13),
+        Judged::BadState => refused(rt, 2),
+        Judged::BadTarget => refused(rt, 8),
+        Judged::Refused(step) => number(rt, b"refused, answer 10, at step ", step as u64),
+        Judged::Outside(step) => number(rt, b"refused, answer 11, at step ", step as u64),
         Judged::Gap(entry) => {
-            text(b"refused, answer 12: a gap, where this entry would survive:\n");
-            tell_entry(entry);
+            text(
+                rt,
+                b"refused, answer 12: a gap, where this entry would survive:\n",
+            )?;
+            tell_entry(rt, entry)
         }
     }
 }

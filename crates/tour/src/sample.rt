@@ -1,5 +1,6 @@
 // A sample of machine code, and its listing.
 use crate::say::text;
+use std::io;
 
 // The words D5088260, D503201F, D50E85A0 and D54C8620, each with its lowest byte first, and one byte more.
 fn sample() -> [u8; 17] {
@@ -9,18 +10,19 @@ fn sample() -> [u8; 17] {
     ]
 }
 
-pub fn list_sample() {
+pub fn list_sample(rt: &impl Print) -> io::Result<()> {
     let code = sample();
     let mut out = [0u8; 256];
     let listed = calls::list(&code, 0, &mut out);
-    tell_part(&out, listed.written);
+    tell_part(rt, &out, listed.written)?;
     let left = std::num::wrapping_sub_usize(code.len(), listed.used);
     let written = calls::tail(left, &mut out);
-    tell_part(&out, written);
+    tell_part(rt, &out, written)
 }
 
-fn tell_part(out: &[u8], n: usize) {
+fn tell_part(rt: &impl Print, out: &[u8], n: usize) -> io::Result<()> {
     if n <= out.len() {
-        text(&out[..n]);
+        text(rt, &out[..n])?;
     }
+    Ok(())
 }

@@ -1,40 +1,42 @@
 // Text and numbers on standard output.
-use libc::STDOUT_FILENO;
+use std::io;
 
-pub fn text(words: &[u8]) {
-    io::write_all(STDOUT_FILENO, words);
+pub fn text(rt: &impl Print, words: &[u8]) -> io::Result<()> {
+    rt.write_all(words)
 }
 
-pub fn byte(letter: u8) {
+pub fn byte(rt: &impl Print, letter: u8) -> io::Result<()> {
     let word = [letter];
-    text(&word);
+    text(rt, &word)
 }
 
 // The words, then the number.
-pub fn number(words: &[u8], n: u64) {
-    text(words);
-    io::print_decimal(STDOUT_FILENO, n);
+pub fn number(rt: &impl Print, words: &[u8], n: u64) -> io::Result<()> {
+    text(rt, words)?;
+    rt.print(n)
 }
 
 // The words, then the number in hexadecimal, of at least so many digits.
-pub fn hex(words: &[u8], n: u64, least: u64) {
-    text(words);
-    text(b"0x");
+pub fn hex(rt: &impl Print, words: &[u8], n: u64, least: u64) -> io::Result<()> {
+    text(rt, words)?;
+    text(rt, b"0x")?;
     for k in 0..16u64 {
-        hex_digit(n, 15 - k, least);
+        hex_digit(rt, n, 15 - k, least)?;
     }
+    Ok(())
 }
 
-pub fn refused(answer: u64) {
-    number(b"refused, answer ", answer);
+pub fn refused(rt: &impl Print, answer: u64) -> io::Result<()> {
+    number(rt, b"refused, answer ", answer)
 }
 
 // The digit at a place, counted from the lowest, unless it is a zero in front.
-fn hex_digit(n: u64, place: u64, least: u64) {
+fn hex_digit(rt: &impl Print, n: u64, place: u64, least: u64) -> io::Result<()> {
     let rest = n >> (place % 16 * 4);
     if (rest > 0) | (place < least) {
-        byte(glyph(rest % 16));
+        byte(rt, glyph(rest % 16))?;
     }
+    Ok(())
 }
 
 fn glyph(digit: u64) -> u8 {

@@ -1,27 +1,30 @@
 // What stands in the table, read back out of its slots.
 use crate::say::{number, text};
-use crate::words::tell_entry;
+use crate::told_entry::tell_entry;
+use std::io;
 
-pub fn tell_slots(table: &[u64; 48]) {
+pub fn tell_slots(rt: &impl Print, table: &[u64; 48]) -> io::Result<()> {
     for k in 0..16usize {
-        tell_slot(k as u64, table[3 * k], table[3 * k + 1]);
+        tell_slot(rt, k as u64, table[3 * k], table[3 * k + 1])?;
     }
+    Ok(())
 }
 
-fn tell_slot(k: u64, base: u64, tag: u64) {
+fn tell_slot(rt: &impl Print, k: u64, base: u64, tag: u64) -> io::Result<()> {
     if tags::is_entry(base, tag) {
-        number(b"slot ", k);
-        text(b": ");
-        tell_entry(tags::entry_at(base, tag));
-        text(b"\n");
+        number(rt, b"slot ", k)?;
+        text(rt, b": ")?;
+        tell_entry(rt, tags::entry_at(base, tag))?;
+        text(rt, b"\n")?;
     }
+    Ok(())
 }
 
-pub fn tell_counts(table: &[u64; 48]) {
-    number(b"guest 7 has ", count(table, 7, 7));
-    number(b" entries, guest 8 has ", count(table, 8, 8));
-    number(b", guest 9 has ", count(table, 9, 9));
-    text(b"\n");
+pub fn tell_counts(rt: &impl Print, table: &[u64; 48]) -> io::Result<()> {
+    number(rt, b"guest 7 has ", count(table, 7, 7))?;
+    number(rt, b" entries, guest 8 has ", count(table, 8, 8))?;
+    number(rt, b", guest 9 has ", count(table, 9, 9))?;
+    text(rt, b"\n")
 }
 
 // The entries of the guests between two VMIDs, both included.
