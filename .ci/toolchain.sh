@@ -14,9 +14,9 @@ fail() {
 # The archive of the proved library, from Rattle's toolchain if it is not there.
 need_archive() {
     [ -f "$archive" ] && return
-    command -v rt >/dev/null || fail "$archive is missing, and so is the command rt: \`rt staticlib board\` of Rattle's toolchain makes it."
-    rt staticlib board >&2
-    [ -f "$archive" ] || fail "\`rt staticlib board\` ended without $archive."
+    command -v rt >/dev/null || fail "$archive is missing, and so is the command rt: \`./archive\` makes it with Rattle's toolchain."
+    ./archive
+    [ -f "$archive" ] || fail "\`./archive\` ended without $archive."
 }
 
 # Whether a rustc starts and has the standard library for x86-64.

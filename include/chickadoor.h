@@ -6,7 +6,7 @@
  * Pointers must point to what they say: `table` to `words` 64-bit words, `list` to `list_words`, `code` and `text` to their bytes, `out` to its record. None may be NULL, not even
  * with a count of 0, and `table`, `list`, `text`, `code` and `out` must not overlap.
  *
- * Link with the archive that `rt staticlib board` writes: target/staticlib/libboard.a (x86-64).
+ * Link with the archive that `./archive` writes: target/staticlib/libboard.a (x86-64).
  */
 #ifndef CHICKADOOR_H
 #define CHICKADOOR_H

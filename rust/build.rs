@@ -47,7 +47,7 @@ fn named(folder: PathBuf) -> Result<PathBuf, String> {
     }
 }
 
-/// The folder that Rattle's toolchain writes archives to, which is asked for this one if it is not there.
+/// The folder that the project's script writes the archive to, which is run if it is not there.
 fn made() -> Result<PathBuf, String> {
     let package = PathBuf::from(env::var_os("CARGO_MANIFEST_DIR").unwrap_or_default());
     let root = package.parent().unwrap_or(&package);
@@ -58,24 +58,24 @@ fn made() -> Result<PathBuf, String> {
     if folder.join(ARCHIVE).is_file() {
         return Ok(folder);
     }
-    Err(missing(&folder, "`rt staticlib board` ended without it"))
+    Err(missing(&folder, "`./archive` ended without it"))
 }
 
 fn make(root: &Path) -> Result<(), String> {
-    // What rt prints is kept from cargo, which would read it for orders.
-    let ran = Command::new("rt").args(["staticlib", "board"]).current_dir(root).output();
-    let output = ran.map_err(|error| format!("the command rt does not start: {}", error))?;
+    // What is printed is kept from cargo, which would read it for orders.
+    let ran = Command::new(root.join("archive")).output();
+    let output = ran.map_err(|error| format!("the script archive does not start: {}", error))?;
     if output.status.success() {
         return Ok(());
     }
     let said = [output.stdout, output.stderr].concat();
-    Err(format!("`rt staticlib board` failed: {}", String::from_utf8_lossy(&said).trim()))
+    Err(format!("`./archive` failed: {}", String::from_utf8_lossy(&said).trim()))
 }
 
 fn missing(folder: &Path, why: &str) -> String {
     format!(
         "The archive {} is missing in {} ({}).\n\
-         `rt staticlib board` of Rattle's toolchain makes it, from the root of the project; {} can name another folder that has it. It is for x86-64.",
+         `./archive` makes it with Rattle's toolchain, at the root of the project; {} can name another folder that has it. It is for x86-64.",
         ARCHIVE,
         folder.display(),
         why,

@@ -1,6 +1,6 @@
 //! Chickadoor for Rust: Arm's TLB range invalidation for emulated boards.
 //!
-//! Safe types over the proved archive that `rt staticlib board` writes. A [`Table`] is lent its words, and nothing is kept between calls. Every call
+//! Safe types over the proved archive that `./archive` writes. A [`Table`] is lent its words, and nothing is kept between calls. Every call
 //! answers, whatever it is given: a refusal is an error that says why, and leaves the table as it was.
 //!
 //! - [`Table`] holds translation entries: insert, look up, execute an instruction, run a list of steps.

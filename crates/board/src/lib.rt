@@ -1,10 +1,14 @@
-// The C interface: include/chickadoor.h declares what this archive defines.
+// The C interface: include/chickadoor.h declares these functions, and the crate board_c exports them.
+#![tactic(auto)]
+
 mod lists;
-mod operands;
-mod tables;
-mod words;
+mod on_operands;
+mod on_tables;
+mod on_words;
 
 pub use lists::{chickadoor_judge, chickadoor_list, chickadoor_run, chickadoor_tail};
-pub use operands::{chickadoor_read_operand, chickadoor_write_operand};
-pub use tables::{chickadoor_execute, chickadoor_insert, chickadoor_look_up, chickadoor_read_slot};
-pub use words::{chickadoor_build, chickadoor_decode};
+pub use on_operands::{chickadoor_read_operand, chickadoor_write_operand};
+pub use on_tables::{
+    chickadoor_execute, chickadoor_insert, chickadoor_look_up, chickadoor_read_slot,
+};
+pub use on_words::{chickadoor_build, chickadoor_decode};

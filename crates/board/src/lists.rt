@@ -13,15 +13,14 @@ ghost use Rattle.returned.specs.Words.{ran_words, judged_words};
 use received::{StateRecord, TargetRecord, state_in, target_in};
 use returned::{judged_number, judged_words, ran_number, ran_words};
 
-#[unsafe(no_mangle)]
-pub extern "C" fn chickadoor_run(
+pub fn chickadoor_run(
     table: &mut [u64],
     state: StateRecord,
     list: &[u64],
     out: &mut [u64; 2],
 ) -> u32
     ensures answers { Answers ran_number ran_words (λ (a : Ran). Runs (state_in state) list.now table.old a table.new) result out.new }
-    ensures list_value { list.now ≡ list.now }
+    ensures list_kept { list.exit.now ≡ list.entry.now }
 {
     let state = state_in(state);
     let ran = calls::run(table, state, list);
@@ -29,15 +28,14 @@ pub extern "C" fn chickadoor_run(
     ran_number(ran)
 }
 
-#[unsafe(no_mangle)]
-pub extern "C" fn chickadoor_judge(
+pub fn chickadoor_judge(
     state: StateRecord,
     target: TargetRecord,
     list: &[u64],
     out: &mut [u64; 15],
 ) -> u32
     ensures answers { Answers judged_number judged_words (λ (a : Judged). Judges (state_in state) (target_in target) list.now a) result out.new }
-    ensures list_value { list.now ≡ list.now }
+    ensures list_kept { list.exit.now ≡ list.entry.now }
 {
     let state = state_in(state);
     let target = target_in(target);
@@ -46,18 +44,16 @@ pub extern "C" fn chickadoor_judge(
     judged_number(judged)
 }
 
-#[unsafe(no_mangle)]
-pub extern "C" fn chickadoor_list(code: &[u8], at: u64, text: &mut [u8], out: &mut [u64; 2]) -> u32
+pub fn chickadoor_list(code: &[u8], at: u64, text: &mut [u8], out: &mut [u64; 2]) -> u32
     ensures answers { Answers done listed_words (λ (a : Listed). Lists code.now at text.old a text.new) result out.new }
-    ensures code_value { code.now ≡ code.now }
+    ensures code_kept { code.exit.now ≡ code.entry.now }
 {
     let listed = calls::list(code, at, text);
     *out = [listed.used as u64, listed.written as u64];
     0
 }
 
-#[unsafe(no_mangle)]
-pub extern "C" fn chickadoor_tail(left: usize, text: &mut [u8], out: &mut [u64; 1]) -> u32
+pub fn chickadoor_tail(left: usize, text: &mut [u8], out: &mut [u64; 1]) -> u32
     ensures { Answers done tailed_words (λ (a : ℕ). Tails left text.old a text.new) result out.new }
 {
     let written = calls::tail(left, text);

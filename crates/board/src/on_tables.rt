@@ -21,8 +21,7 @@ use returned::{
 };
 use tags::regime_at;
 
-#[unsafe(no_mangle)]
-pub extern "C" fn chickadoor_insert(
+pub fn chickadoor_insert(
     table: &mut [u64],
     entry: EntryRecord,
     output: u64,
@@ -41,8 +40,7 @@ pub extern "C" fn chickadoor_insert(
     inserted_number(inserted)
 }
 
-#[unsafe(no_mangle)]
-pub extern "C" fn chickadoor_look_up(
+pub fn chickadoor_look_up(
     table: &[u64],
     state: StateRecord,
     regime: u64,
@@ -50,7 +48,7 @@ pub extern "C" fn chickadoor_look_up(
     address: u64,
     out: &mut [u64; 3],
 ) -> u32
-    ensures { Answers (found_number (is_regime regime)) (found_words (is_regime regime)) (λ (a : LookedUp). LooksUp (state_in state) (regime_at regime) asid address table.now a table.now) result out.new }
+    ensures { Answers (found_number (is_regime regime)) (found_words (is_regime regime)) (λ (a : LookedUp). LooksUp (state_in state) (regime_at regime) asid address table.entry.now a table.exit.now) result out.new }
 {
     let state = state_in(state);
     let known = is_regime(regime);
@@ -60,9 +58,8 @@ pub extern "C" fn chickadoor_look_up(
     found_number(known, looked)
 }
 
-#[unsafe(no_mangle)]
-pub extern "C" fn chickadoor_read_slot(table: &[u64], slot: usize, out: &mut [u64; 15]) -> u32
-    ensures { Answers slot_number slot_words (λ (a : SlotRead). ReadsSlot slot table.now a table.now) result out.new }
+pub fn chickadoor_read_slot(table: &[u64], slot: usize, out: &mut [u64; 15]) -> u32
+    ensures { Answers slot_number slot_words (λ (a : SlotRead). ReadsSlot slot table.entry.now a table.exit.now) result out.new }
 {
     let read = calls::read_slot(table, slot);
     let number = slot_number(read);
@@ -74,8 +71,7 @@ pub extern "C" fn chickadoor_read_slot(table: &[u64], slot: usize, out: &mut [u6
     number
 }
 
-#[unsafe(no_mangle)]
-pub extern "C" fn chickadoor_execute(
+pub fn chickadoor_execute(
     table: &mut [u64],
     state: StateRecord,
     word: u64,

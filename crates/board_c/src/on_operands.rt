@@ -6,8 +6,7 @@ ghost use Rattle.machine.specs.declared.operand.OperandWritten.{OperandWritten};
 ghost use Rattle.received.specs.Operands.{told_fits, told_in, fields_in};
 ghost use Rattle.returned.specs.Known.{read_number_if, read_words_if, written_number_if, written_words_if};
 
-use received::{FieldsRecord, ToldRecord, fields_in, told_fits, told_in};
-use returned::{read_number, read_words, written_number, written_words};
+use received::{FieldsRecord, ToldRecord};
 
 #[unsafe(no_mangle)]
 pub extern "C" fn chickadoor_read_operand(
@@ -18,14 +17,7 @@ pub extern "C" fn chickadoor_read_operand(
 ) -> u32
     ensures { Answers (read_number_if (told_fits told)) (read_words_if (told_fits told)) (λ (a : OperandRead). Reads (told_in told) xt xt2 a) result out.new }
 {
-    if !told_fits(told) {
-        *out = [0; 7];
-        return 8;
-    }
-    let told = told_in(told);
-    let read = calls::read_operand(told, xt, xt2);
-    *out = read_words(read);
-    read_number(read)
+    board::chickadoor_read_operand(told, xt, xt2, out)
 }
 
 #[unsafe(no_mangle)]
@@ -36,13 +28,5 @@ pub extern "C" fn chickadoor_write_operand(
 ) -> u32
     ensures { Answers (written_number_if (told_fits told)) (written_words_if (told_fits told)) (λ (a : OperandWritten). Writes (told_in told) (fields_in fields) a) result out.new }
 {
-    if !told_fits(told) {
-        *out = [0, 0];
-        return 8;
-    }
-    let told = told_in(told);
-    let fields = fields_in(fields);
-    let written = calls::write_operand(told, fields);
-    *out = written_words(written);
-    written_number(written)
+    board::chickadoor_write_operand(told, fields, out)
 }

@@ -1,0 +1,28 @@
+use Rattle.std.proofs.Common.{◌≡◌, ℕ, Bool, true, false, List, refl, sym, ◌∙◌}
+use Rattle.machine.proofs.Inserting.{insert-13, insert-8}
+use Rattle.machine.specs.Entry.{is_legal}
+use Rattle.machine.specs.Table.{is_table, insert_table}
+use Rattle.machine.specs.declared.entry.Entry.{Entry}
+use Rattle.received.proofs.Unfit.{entry-unfit}
+use Rattle.received.specs.Entries.{entry_in}
+use Rattle.board.proofs.on_tables.chickadoor_insert.Goals as goal
+
+-- an entry that is not legal changes no table
+kept : (e : Entry) (out : ℕ) (l : List ℕ) → is_legal e ≡ false → l ≡ insert_table e out l
+kept e out l h = go (is_table l) refl
+  where
+    go : (b : Bool) → is_table l ≡ b → l ≡ insert_table e out l
+    go true t = sym (insert-8 e out l t h).1
+    go false t = sym (insert-13 e out l t).1
+
+pub returns-then-not-entry_fits : goal.returns-then-not-entry_fits
+returns-then-not-entry_fits c =
+    let e = entry_in c.args.entry in
+    let unfit = entry-unfit c.args.entry (sym c.entry_fits.ensures ∙ c.if-not-entry_fits.true) in
+    let call = c.refuse_entry-refused in
+    record {
+      answer = call.result;
+      kept = (call.ensures e unfit, kept e c.args.output c.args.table.now unfit);
+      numbered = c.inserted_number.ensures;
+      told = c.inserted_words.ensures;
+    }

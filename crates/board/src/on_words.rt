@@ -1,0 +1,30 @@
+// Instruction words, read and built.
+ghost use Rattle.board.specs.Answers.{Answers};
+ghost use Rattle.calls.specs.Promises.{Decodes, Builds};
+ghost use Rattle.machine.specs.Answer.{decoded_number, built_number};
+ghost use Rattle.received.specs.Operations.{operation_in};
+ghost use Rattle.returned.specs.Words.{decoded_words, built_words};
+
+use received::{OperationRecord, operation_fits, operation_in};
+use returned::{built_number, built_words, decoded_number, decoded_words};
+
+pub fn chickadoor_decode(word: u64, out: &mut [u64; 5]) -> u32
+    ensures { Answers decoded_number decoded_words (Decodes word) result out.new }
+{
+    let decoded = calls::decode(word);
+    *out = decoded_words(decoded);
+    decoded_number(decoded)
+}
+
+pub fn chickadoor_build(operation: OperationRecord, out: &mut [u64; 1]) -> u32
+    ensures { Answers built_number built_words (Builds (operation_in operation)) result out.new }
+{
+    if !operation_fits(operation) {
+        *out = [0];
+        return 8;
+    }
+    let operation = operation_in(operation);
+    let built = calls::build(operation);
+    *out = built_words(built);
+    built_number(built)
+}
