@@ -24,12 +24,13 @@ fn list_file(rt: &HostRuntime, path: &str, at: u64, most: usize) -> Result<()> {
     let mut input = match fs::open(rt, path) {
         Ok(input) => input,
         Err(error) => {
-            eprintln!(rt; "{path}: {error}")?;
+            // Where standard error takes nothing either, the next file still comes.
+            let _ = eprintln!(rt; "{path}: {error}");
             return Ok(());
         }
     };
     if let Err(error) = stream::list_stream(&mut input, &mut rt.stdout(), at, most) {
-        eprintln!(rt; "{error:#}")?;
+        let _ = eprintln!(rt; "{error:#}");
     }
     Ok(())
 }

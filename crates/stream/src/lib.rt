@@ -73,7 +73,8 @@ fn next_piece<R: Read, W: Write>(
     let read = match read_more(input, code, held, end) {
         Ok(read) => read,
         Err(error) => {
-            write_tail(held, output, text)?;
+            // The read failed first, so its error is the answer, even where the tail cannot be written.
+            let _ = write_tail(held, output, text);
             return Err(error).context("input");
         }
     };
