@@ -47,7 +47,7 @@ fn named(folder: PathBuf) -> Result<PathBuf, String> {
     }
 }
 
-/// The folder that the project's script writes the archive to, which is run if it is not there.
+/// The folder that the script `archive` writes to. The script is run if the archive is not there.
 fn made() -> Result<PathBuf, String> {
     let package = PathBuf::from(env::var_os("CARGO_MANIFEST_DIR").unwrap_or_default());
     let root = package.parent().unwrap_or(&package);
