@@ -2,5 +2,6 @@
 #![tactic(auto)]
 
 fn main(rt: HostRuntime) -> anyhow::Result<()> {
-    stream::list_stream(&mut rt.stdin(), &mut rt.stdout(), 0, 65536)
+    stream::list_stream(&mut rt.stdin(), &mut rt.stdout(), 0, 65536)?;
+    Ok(())
 }

@@ -2,10 +2,9 @@
 // wrote it; in pieces of several sizes, and at offsets past 2^32 and up to 2^64.
 #![tactic(auto)]
 
-use anyhow::Result;
-use std::fs;
+use std::{fs, io};
 
-fn main(rt: HostRuntime) -> Result<()> {
+fn main(rt: HostRuntime) -> io::Result<()> {
     list_file(&rt, "empty", 0, 65536)?;
     list_file(&rt, "one_byte", 0, 65536)?;
     list_file(&rt, "two_bytes", 0, 65536)?;
@@ -19,7 +18,7 @@ fn main(rt: HostRuntime) -> Result<()> {
     list_file(&rt, "every_operation", 0, 4096)
 }
 
-fn list_file(rt: &HostRuntime, path: &str, at: u64, most: usize) -> Result<()> {
+fn list_file(rt: &HostRuntime, path: &str, at: u64, most: usize) -> io::Result<()> {
     println!(rt; "== {path}")?;
     let mut input = match fs::open(rt, path) {
         Ok(input) => input,
@@ -30,7 +29,7 @@ fn list_file(rt: &HostRuntime, path: &str, at: u64, most: usize) -> Result<()> {
         }
     };
     if let Err(error) = stream::list_stream(&mut input, &mut rt.stdout(), at, most) {
-        let _ = eprintln!(rt; "{error:#}");
+        let _ = eprintln!(rt; "{error}");
     }
     Ok(())
 }

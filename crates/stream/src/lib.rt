@@ -3,9 +3,18 @@
 
 ghost use Rattle.std.specs.Prelude.{◌≡◌, ◌+◌, ◌<◌, ◌≤◌, length, take, drop, IfOk};
 
-use anyhow::{Context, Result};
 use std::io;
 use std::io::{Read, Write};
+use thiserror::Error;
+
+// Why a listing ended before its time: a read failed, or a write. Nothing else can.
+#[derive(Debug, Drop, Error)]
+pub enum StreamError {
+    #[error("input: {0}")]
+    Input(io::Error),
+    #[error("output: {0}")]
+    Output(io::Error),
+}
 
 // Lists the code that `input` gives to `output`. Its first byte has the offset `at`, and no more than `most` bytes are
 // read at a time. A word that is cut by a read is held over to the next. A read that fails ends the listing as the end of
@@ -15,7 +24,7 @@ pub fn list_stream<R: Read, W: Write>(
     output: &mut W,
     at: u64,
     most: usize,
-) -> Result<()> {
+) -> Result<(), StreamError> {
     let mut code = [0u8; 65536];
     let mut text = [0u8; 65536];
     stream_by(input, output, at, most, &mut code, &mut text)
@@ -30,7 +39,7 @@ fn stream_by<R: Read, W: Write>(
     most: usize,
     code: &mut [u8],
     text: &mut [u8],
-) -> Result<()>
+) -> Result<(), StreamError>
     requires { (8 ≤ length code.old) × (52 ≤ length text.old) }
 {
     let mut offset = at;
@@ -39,7 +48,7 @@ fn stream_by<R: Read, W: Write>(
     while 0 < turns {
         let turn = next_piece(input, output, offset, most, held, code, text)?;
         if !turn.more {
-            return write_tail(turn.held, output, text);
+            return write_tail(turn.held, output, text).map_err(StreamError::Output);
         }
         held = turn.held;
         offset = offset.wrapping_add(turn.used as u64);
@@ -65,7 +74,7 @@ fn next_piece<R: Read, W: Write>(
     held: usize,
     code: &mut [u8],
     text: &mut [u8],
-) -> Result<Turn>
+) -> Result<Turn, StreamError>
     requires { (held ≤ 3) × (8 ≤ length code.old) × (52 ≤ length text.old) }
     ensures { IfOk result (λ t. t.held ≤ 3) }
 {
@@ -75,7 +84,7 @@ fn next_piece<R: Read, W: Write>(
         Err(error) => {
             // The read failed first, so its error is the answer, even where the tail cannot be written.
             let _ = write_tail(held, output, text);
-            return Err(error).context("input");
+            return Err(StreamError::Input(error));
         }
     };
     let n = held + read;
@@ -86,7 +95,7 @@ fn next_piece<R: Read, W: Write>(
             more: false,
         });
     }
-    let used = list_words(&code[..n], at, output, text)?;
+    let used = list_words(&code[..n], at, output, text).map_err(StreamError::Output)?;
     let kept = keep_rest(code, used, n);
     Ok(Turn {
         held: kept,
@@ -95,9 +104,9 @@ fn next_piece<R: Read, W: Write>(
     })
 }
 
-fn write_tail<W: Write>(left: usize, output: &mut W, text: &mut [u8]) -> Result<()> {
+fn write_tail<W: Write>(left: usize, output: &mut W, text: &mut [u8]) -> io::Result<()> {
     let k = listing::list_tail(left, text);
-    output.write_all(&text[..k]).context("output")
+    output.write_all(&text[..k])
 }
 
 // Where the next read ends: `most` bytes behind those held over, but at least one and within the buffer.
@@ -123,7 +132,7 @@ fn read_more<R: Read>(input: &mut R, code: &mut [u8], from: usize, to: usize) ->
 }
 
 // Lists every whole word of the code, unless a write fails, and answers how many bytes those are.
-fn list_words<W: Write>(code: &[u8], at: u64, output: &mut W, text: &mut [u8]) -> Result<usize>
+fn list_words<W: Write>(code: &[u8], at: u64, output: &mut W, text: &mut [u8]) -> io::Result<usize>
     requires { 52 ≤ length text.old }
     ensures { IfOk result (λ used. (length code.now < used + 4) × (used ≤ length code.now)) }
 {
@@ -136,14 +145,14 @@ fn list_words<W: Write>(code: &[u8], at: u64, output: &mut W, text: &mut [u8]) -
 
 // Lists as many words as the buffer has room for, at least one, and answers how many bytes those are.
 #[tactic(auto, using(listing::proofs::Longest::progress))]
-fn list_some<W: Write>(code: &[u8], at: u64, output: &mut W, text: &mut [u8]) -> Result<usize>
+fn list_some<W: Write>(code: &[u8], at: u64, output: &mut W, text: &mut [u8]) -> io::Result<usize>
     requires { (4 ≤ length code.now) × (52 ≤ length text.old) }
     ensures { IfOk result (λ used. (4 ≤ used) × (used ≤ length code.now)) }
 {
     let listed = listing::list_code(code, at, text);
     let used = listed.used;
     let written = listed.written;
-    output.write_all(&text[..written]).context("output")?;
+    output.write_all(&text[..written])?;
     Ok(used)
 }
 
