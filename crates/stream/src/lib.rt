@@ -76,7 +76,8 @@ fn next_piece<R: Read, W: Write>(
     text: &mut [u8],
 ) -> Result<Turn, StreamError>
     requires { (held ≤ 3) × (8 ≤ length code.old) × (52 ≤ length text.old) }
-    ensures { IfOk result (λ t. t.held ≤ 3) }
+    ensures held { IfOk result (λ t. t.held ≤ 3) }
+    ensures lengths { (length code.new ≡ length code.old) × (length text.new ≡ length text.old) }
 {
     let end = piece_end(held, most, code.len());
     let read = match read_more(input, code, held, end) {
@@ -126,7 +127,8 @@ fn piece_end(held: usize, most: usize, room: usize) -> usize
 // How many bytes were read into a part of the buffer: none at the end of the input.
 fn read_more<R: Read>(input: &mut R, code: &mut [u8], from: usize, to: usize) -> io::Result<usize>
     requires { (from ≤ to) × (to ≤ length code.old) }
-    ensures { IfOk result (λ n. from + n ≤ to) }
+    ensures bound { IfOk result (λ n. from + n ≤ to) }
+    ensures lengths { length code.new ≡ length code.old }
 {
     input.read(&mut code[from..to])
 }
@@ -134,7 +136,8 @@ fn read_more<R: Read>(input: &mut R, code: &mut [u8], from: usize, to: usize) ->
 // Lists every whole word of the code, unless a write fails, and answers how many bytes those are.
 fn list_words<W: Write>(code: &[u8], at: u64, output: &mut W, text: &mut [u8]) -> io::Result<usize>
     requires { 52 ≤ length text.old }
-    ensures { IfOk result (λ used. (length code.now < used + 4) × (used ≤ length code.now)) }
+    ensures used { IfOk result (λ used. (length code.now < used + 4) × (used ≤ length code.now)) }
+    ensures lengths { length text.new ≡ length text.old }
 {
     let mut i = 0;
     while 4 <= code.len() - i {
@@ -147,7 +150,8 @@ fn list_words<W: Write>(code: &[u8], at: u64, output: &mut W, text: &mut [u8]) -
 #[tactic(auto, using(listing::proofs::Longest::progress))]
 fn list_some<W: Write>(code: &[u8], at: u64, output: &mut W, text: &mut [u8]) -> io::Result<usize>
     requires { (4 ≤ length code.now) × (52 ≤ length text.old) }
-    ensures { IfOk result (λ used. (4 ≤ used) × (used ≤ length code.now)) }
+    ensures used { IfOk result (λ used. (4 ≤ used) × (used ≤ length code.now)) }
+    ensures lengths { length text.new ≡ length text.old }
 {
     let listed = listing::list_code(code, at, text);
     let used = listed.used;
