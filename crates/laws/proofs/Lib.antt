@@ -6,6 +6,7 @@ pub mod Mask
 pub mod Bits
 pub mod Aligned
 pub mod Slots
+pub mod Chunked
 pub mod Any
 pub mod Clearing
 pub mod Passing

@@ -4,3 +4,4 @@ pub mod Mask
 pub mod Bits
 pub mod Slots
 pub mod Passed
+pub mod Chunks

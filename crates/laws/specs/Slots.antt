@@ -1,5 +1,5 @@
 -- A list of numbers as slots of three, and a test of a slot's three numbers.
-use Rattle.std.specs.Prelude.{ℕ, zero, suc, ◌+◌, ◌*◌, ◌/◌, Bool, cond, ◌&&◌, List, [], ◌∷◌, eqb, ltb, length, get_or, set}
+use Rattle.std.specs.Prelude.{ℕ, suc, ◌+◌, ◌*◌, ◌/◌, Bool, cond, ◌&&◌, List, [], ◌∷◌, eqb, ltb, length, get_or, set, Option, Some, None}
 
 abbrev pub slots : List ℕ → ℕ
 slots l = length l / 3
@@ -25,6 +25,10 @@ first p (a ∷ b ∷ c ∷ l) = cond (p a b c) 0 (suc (first p l))
 -- there is one
 abbrev pub some : (ℕ → ℕ → ℕ → Bool) → List ℕ → Bool
 some p l = ltb (first p l) (slots l)
+
+-- its place, if there is one
+abbrev pub first_slot : (ℕ → ℕ → ℕ → Bool) → List ℕ → Option ℕ
+first_slot p l = cond (some p l) (Some (first p l)) None
 
 -- the list with three zeros for each such slot
 unfoldable pub cleared : (ℕ → ℕ → ℕ → Bool) → List ℕ → List ℕ
