@@ -1,17 +1,18 @@
 // The functions over a list of steps, and over machine code.
-ghost use Rattle.std.specs.Prelude.{◌≡◌, ℕ};
+ghost use Rattle.std.specs.Prelude.{◌≡◌, ℕ, ⊤, Result};
 ghost use Rattle.board.specs.Answers.{Answers, done, listed_words, tailed_words};
 ghost use Rattle.calls.specs.Promises.{Runs, Judges, Lists, Tails};
 ghost use Rattle.listing.specs.declared.code.Listed.{Listed};
-ghost use Rattle.machine.specs.Answer.{ran_number, judged_number};
-ghost use Rattle.machine.specs.declared.judge.Judged.{Judged};
-ghost use Rattle.machine.specs.declared.work.Ran.{Ran};
+ghost use Rattle.machine.specs.Answer.{number_of, judged_number};
+ghost use Rattle.machine.specs.declared.judge.Objection.{Objection};
+ghost use Rattle.machine.specs.declared.refusal.Refusal.{Refusal};
 ghost use Rattle.received.specs.States.{state_in};
 ghost use Rattle.received.specs.Targets.{target_in};
 ghost use Rattle.returned.specs.Words.{ran_words, judged_words};
 
-use received::{StateRecord, TargetRecord, state_in, target_in};
-use returned::{judged_number, judged_words, ran_number, ran_words};
+use machine::{State, Target};
+use received::{StateRecord, TargetRecord};
+use returned::{judged_number, judged_words, number_of, ran_words};
 
 pub fn chickadoor_run(
     table: &mut [u64],
@@ -19,13 +20,12 @@ pub fn chickadoor_run(
     list: &[u64],
     out: &mut [u64; 2],
 ) -> u32
-    ensures answers { Answers ran_number ran_words (λ (a : Ran). Runs (state_in state) list.now table.old a table.new) result out.new }
+    ensures answers { Answers number_of ran_words (λ (a : Result ℕ Refusal). Runs (state_in state) list.now table.old a table.new) result out.new }
     ensures list_kept { list.exit.now ≡ list.entry.now }
 {
-    let state = state_in(state);
-    let ran = calls::run(table, state, list);
+    let ran = calls::run(table, State::from(state), list);
     *out = ran_words(ran);
-    ran_number(ran)
+    number_of(&ran)
 }
 
 pub fn chickadoor_judge(
@@ -34,12 +34,10 @@ pub fn chickadoor_judge(
     list: &[u64],
     out: &mut [u64; 15],
 ) -> u32
-    ensures answers { Answers judged_number judged_words (λ (a : Judged). Judges (state_in state) (target_in target) list.now a) result out.new }
+    ensures answers { Answers judged_number judged_words (λ (a : Result ⊤ Objection). Judges (state_in state) (target_in target) list.now a) result out.new }
     ensures list_kept { list.exit.now ≡ list.entry.now }
 {
-    let state = state_in(state);
-    let target = target_in(target);
-    let judged = calls::judge(state, target, list);
+    let judged = calls::judge(State::from(state), Target::from(target), list);
     *out = judged_words(judged);
     judged_number(judged)
 }

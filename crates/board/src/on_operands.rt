@@ -1,37 +1,36 @@
 // The reader and the writer of an operand.
+ghost use Rattle.std.specs.Prelude.{ℕ, Result};
 ghost use Rattle.board.specs.Answers.{Answers};
 ghost use Rattle.calls.specs.Promises.{Reads, Writes};
-ghost use Rattle.machine.specs.declared.operand.OperandRead.{OperandRead};
-ghost use Rattle.machine.specs.declared.operand.OperandWritten.{OperandWritten};
+ghost use Rattle.machine.specs.declared.operand.Operand.{Operand};
+ghost use Rattle.machine.specs.declared.refusal.Refusal.{Refusal};
 ghost use Rattle.received.specs.Operands.{told_fits, told_in, fields_in};
 ghost use Rattle.returned.specs.Known.{read_number_if, read_words_if, written_number_if, written_words_if};
 
-use received::{FieldsRecord, ToldRecord, fields_in, told_fits, told_in};
-use returned::{read_number, read_words, written_number, written_words};
+use machine::{Operand, Refusal, Told};
+use received::{FieldsRecord, ToldRecord};
+use returned::{number_of, read_words, written_words};
 
 pub fn chickadoor_read_operand(told: ToldRecord, xt: u64, xt2: u64, out: &mut [u64; 7]) -> u32
-    ensures { Answers (read_number_if (told_fits told)) (read_words_if (told_fits told)) (λ (a : OperandRead). Reads (told_in told) xt xt2 a) result out.new }
+    ensures { Answers (read_number_if (told_fits told)) (read_words_if (told_fits told)) (λ (a : Result Operand Refusal). Reads (told_in told) xt xt2 a) result out.new }
 {
-    if !told_fits(told) {
+    let Ok(told) = Told::try_from(told) else {
         *out = [0; 7];
-        return 8;
-    }
-    let told = told_in(told);
+        return u32::from(Refusal::Illegal.number());
+    };
     let read = calls::read_operand(told, xt, xt2);
     *out = read_words(read);
-    read_number(read)
+    number_of(&read)
 }
 
 pub fn chickadoor_write_operand(told: ToldRecord, fields: FieldsRecord, out: &mut [u64; 2]) -> u32
-    ensures { Answers (written_number_if (told_fits told)) (written_words_if (told_fits told)) (λ (a : OperandWritten). Writes (told_in told) (fields_in fields) a) result out.new }
+    ensures { Answers (written_number_if (told_fits told)) (written_words_if (told_fits told)) (λ (a : Result (ℕ × ℕ) Refusal). Writes (told_in told) (fields_in fields) a) result out.new }
 {
-    if !told_fits(told) {
+    let Ok(told) = Told::try_from(told) else {
         *out = [0, 0];
-        return 8;
-    }
-    let told = told_in(told);
-    let fields = fields_in(fields);
-    let written = calls::write_operand(told, fields);
+        return u32::from(Refusal::Illegal.number());
+    };
+    let written = calls::write_operand(told, Operand::from(fields));
     *out = written_words(written);
-    written_number(written)
+    number_of(&written)
 }

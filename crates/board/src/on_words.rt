@@ -5,7 +5,8 @@ ghost use Rattle.machine.specs.Answer.{decoded_number, built_number};
 ghost use Rattle.received.specs.Operations.{operation_in};
 ghost use Rattle.returned.specs.Words.{decoded_words, built_words};
 
-use received::{OperationRecord, operation_fits, operation_in};
+use machine::{Operation, Refusal};
+use received::OperationRecord;
 use returned::{built_number, built_words, decoded_number, decoded_words};
 
 pub fn chickadoor_decode(word: u64, out: &mut [u64; 5]) -> u32
@@ -19,11 +20,10 @@ pub fn chickadoor_decode(word: u64, out: &mut [u64; 5]) -> u32
 pub fn chickadoor_build(operation: OperationRecord, out: &mut [u64; 1]) -> u32
     ensures { Answers built_number built_words (Builds (operation_in operation)) result out.new }
 {
-    if !operation_fits(operation) {
+    let Ok(operation) = Operation::try_from(operation) else {
         *out = [0];
-        return 8;
-    }
-    let operation = operation_in(operation);
+        return u32::from(Refusal::Illegal.number());
+    };
     let built = calls::build(operation);
     *out = built_words(built);
     built_number(built)

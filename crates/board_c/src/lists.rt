@@ -1,11 +1,11 @@
 // The functions over a list of steps, and over machine code.
-ghost use Rattle.std.specs.Prelude.{◌≡◌, ℕ};
+ghost use Rattle.std.specs.Prelude.{◌≡◌, ℕ, ⊤, Result};
 ghost use Rattle.board.specs.Answers.{Answers, done, listed_words, tailed_words};
 ghost use Rattle.calls.specs.Promises.{Runs, Judges, Lists, Tails};
 ghost use Rattle.listing.specs.declared.code.Listed.{Listed};
-ghost use Rattle.machine.specs.Answer.{ran_number, judged_number};
-ghost use Rattle.machine.specs.declared.judge.Judged.{Judged};
-ghost use Rattle.machine.specs.declared.work.Ran.{Ran};
+ghost use Rattle.machine.specs.Answer.{number_of, judged_number};
+ghost use Rattle.machine.specs.declared.judge.Objection.{Objection};
+ghost use Rattle.machine.specs.declared.refusal.Refusal.{Refusal};
 ghost use Rattle.received.specs.States.{state_in};
 ghost use Rattle.received.specs.Targets.{target_in};
 ghost use Rattle.returned.specs.Words.{ran_words, judged_words};
@@ -19,7 +19,7 @@ pub extern "C" fn chickadoor_run(
     list: &[u64],
     out: &mut [u64; 2],
 ) -> u32
-    ensures answers { Answers ran_number ran_words (λ (a : Ran). Runs (state_in state) list.now table.old a table.new) result out.new }
+    ensures answers { Answers number_of ran_words (λ (a : Result ℕ Refusal). Runs (state_in state) list.now table.old a table.new) result out.new }
     ensures list_kept { list.exit.now ≡ list.entry.now }
 {
     board::chickadoor_run(table, state, list, out)
@@ -32,7 +32,7 @@ pub extern "C" fn chickadoor_judge(
     list: &[u64],
     out: &mut [u64; 15],
 ) -> u32
-    ensures answers { Answers judged_number judged_words (λ (a : Judged). Judges (state_in state) (target_in target) list.now a) result out.new }
+    ensures answers { Answers judged_number judged_words (λ (a : Result ⊤ Objection). Judges (state_in state) (target_in target) list.now a) result out.new }
     ensures list_kept { list.exit.now ≡ list.entry.now }
 {
     board::chickadoor_judge(state, target, list, out)

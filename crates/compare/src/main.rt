@@ -1,7 +1,9 @@
 // Runs the public calls and the second model on the same inputs, and tells of each call how many inputs it had, which answers they got, and how
-// many of them the two answer differently.
+// many of them the two answer differently. A seed, a size and an allocator are handed on apart: together they are no thing of their own.
 #![tactic(auto)]
 
+mod lent;
+mod numbered;
 mod on_execute;
 mod on_insert;
 mod on_judge;
@@ -12,39 +14,37 @@ mod on_run;
 mod on_slots;
 mod on_state;
 mod on_words;
-mod replies;
-mod summary;
 mod tally;
 
 use std::io;
-use summary::{line, totals};
-use tally::{Tally, none};
+use tally::Tally;
 
 fn main(rt: HostRuntime) -> io::Result<()> {
-    let words = told(&rt, b"decode", on_words::decodes(), none())?;
-    let built = told(&rt, b"build", on_words::builds(), words)?;
-    let listed = told(&rt, b"listing", on_listing::listings(), built)?;
-    let bad = told(&rt, b"is_bad", on_state::checks(), listed)?;
-    let decided = told(&rt, b"decide", on_state::decisions(), bad)?;
-    let regimes = told(&rt, b"regime", on_state::regimes(), decided)?;
-    let read = told(&rt, b"read_operand", on_operands::reads(), regimes)?;
-    let written = told(&rt, b"write_operand", on_operands::writes(), read)?;
-    let slots = told(&rt, b"slot", on_slots::slots(), written)?;
-    let inserted = told(&rt, b"insert", on_insert::inserts(), slots)?;
-    let found = told(&rt, b"look_up", on_lookup::lookups(), inserted)?;
-    let executed = told(&rt, b"execute", on_execute::executions(), found)?;
-    let ran = told(&rt, b"run", on_run::runs(), executed)?;
-    let judged = told(&rt, b"judge", on_judge::verdicts(), ran)?;
-    totals(&rt, judged.inputs, judged.differences)
+    let alloc = rt.alloc();
+    let tallies = [
+        told(&rt, "decode", on_words::decodes())?,
+        told(&rt, "build", on_words::builds())?,
+        told(&rt, "listing", on_listing::listings(alloc)?)?,
+        told(&rt, "is_bad", on_state::checks())?,
+        told(&rt, "decide", on_state::decisions())?,
+        told(&rt, "regime", on_state::regimes())?,
+        told(&rt, "read_operand", on_operands::reads())?,
+        told(&rt, "write_operand", on_operands::writes())?,
+        told(&rt, "slot", on_slots::slots())?,
+        told(&rt, "insert", on_insert::inserts(alloc)?)?,
+        told(&rt, "look_up", on_lookup::lookups(alloc)?)?,
+        told(&rt, "execute", on_execute::executions(alloc)?)?,
+        told(&rt, "run", on_run::runs(alloc)?)?,
+        told(&rt, "judge", on_judge::verdicts(alloc)?)?,
+    ];
+    let sum = tallies
+        .iter()
+        .fold(Tally::NONE, |sum, tally| sum.plus(*tally));
+    println!(rt; "{} inputs, {} differences", sum.inputs, sum.differences)
 }
 
-// Writes a call's line, and adds its inputs and differences to the sum so far.
-fn told(rt: &impl Print, name: &[u8], tally: Tally, sum: Tally) -> io::Result<Tally> {
-    line(rt, name, tally)?;
-    Ok(Tally {
-        inputs: std::num::wrapping_add_u64(sum.inputs, tally.inputs),
-        answers: [0; 15],
-        differences: std::num::wrapping_add_u64(sum.differences, tally.differences),
-        first: 0,
-    })
+// Writes a call's line.
+fn told(rt: &impl Print, name: &str, tally: Tally) -> io::Result<Tally> {
+    println!(rt; "{name}: {tally}")?;
+    Ok(tally)
 }

@@ -1,73 +1,56 @@
 // Execute, on tables aimed at the operation.
-use crate::replies::{Reply, of_answer, of_executed, plain, seen};
-use crate::tally::{Seen, Tally, none, with};
+use crate::lent::on_tables;
+use crate::tally::{Seen, Tally};
 use inputs::{
-    Step, any_work, below, draw, fair_state, fill, good_state, same_words, step_for, words_of,
-    work_of,
+    Step, any_work, below, draw, fair_state, fill, good_state, step_for, words_of, work_of,
 };
 use machine::State;
+use std::alloc::{AllocError, Global};
 
-pub fn executions() -> Tally {
-    let mut tally = none();
-    for n in 0..30000u64 {
-        tally = with(tally, small_execution(draw(11, n)));
+pub fn executions(alloc: Global) -> Result<Tally, AllocError> {
+    let mut tally = Tally::drawn(30000, 11, |seed| small_execution(alloc, seed))?;
+    for (seed, words) in [(1, 6144), (2, 6144), (3, 6144), (4, 6147), (5, 6145)] {
+        tally.count(large_execution(alloc, seed, words)?);
     }
-    large_executions(tally)
+    Ok(tally)
 }
 
-fn large_executions(tally: Tally) -> Tally {
-    let one = with(tally, large_execution(1, 6144));
-    let two = with(one, large_execution(2, 6144));
-    let three = with(two, large_execution(3, 6144));
-    let over = with(three, large_execution(4, 6147));
-    with(over, large_execution(5, 6145))
-}
-
-fn small_execution(seed: u64) -> Seen {
+fn small_execution(alloc: Global, seed: u64) -> Result<Seen, AllocError> {
     let state = fair_state(draw(seed, 0));
     let step = step_for(state, draw(seed, 1));
     let slots = below(seed, 2, 13);
     let work = work_of(state, step, draw(seed, 3));
-    let mut one = [0; 48];
-    fill(&mut one, (slots % 13) as usize, work, work, draw(seed, 4));
-    let mut two = one;
-    execute_seen(
-        &mut one,
-        &mut two,
-        words_of(slots, draw(seed, 5)),
-        state,
-        step,
-    )
+    let mut table = vec![in alloc; 0u64; words_of(slots, draw(seed, 5))]?;
+    fill(
+        table.as_mut_slice(),
+        slots as usize,
+        work,
+        work,
+        draw(seed, 4),
+    );
+    execute_seen(table, state, step)
 }
 
-fn large_execution(seed: u64, words: usize) -> Seen {
+fn large_execution(alloc: Global, seed: u64, words: usize) -> Result<Seen, AllocError> {
     let state = good_state(draw(seed, 0));
     let step = step_for(state, draw(seed, 1));
     let work = work_of(state, step, draw(seed, 3));
-    let mut one = [0; 6160];
-    fill(&mut one, 2048, work, any_work(draw(seed, 4)), draw(seed, 5));
-    let mut two = one;
-    execute_seen(&mut one, &mut two, words, state, step)
+    let mut table = vec![in alloc; 0u64; words]?;
+    fill(
+        table.as_mut_slice(),
+        2048,
+        work,
+        any_work(draw(seed, 4)),
+        draw(seed, 5),
+    );
+    execute_seen(table, state, step)
 }
 
-fn execute_seen(one: &mut [u64], two: &mut [u64], words: usize, state: State, step: Step) -> Seen {
-    let ours = execute_ours(one, words, state, step);
-    let theirs = execute_theirs(two, words, state, step);
-    seen(ours, theirs, same_words(one, two))
-}
-
-fn execute_ours(table: &mut [u64], words: usize, state: State, step: Step) -> Reply {
-    if words <= table.len() {
-        of_executed(calls::execute(&mut table[..words], state, step.word, step.xt, step.xt2))
-    } else {
-        plain(15, 0)
-    }
-}
-
-fn execute_theirs(table: &mut [u64], words: usize, state: State, step: Step) -> Reply {
-    if words <= table.len() {
-        of_answer(second_tables::execute(&mut table[..words], state, step.word, step.xt, step.xt2))
-    } else {
-        plain(15, 0)
-    }
+fn execute_seen(table: Vec<u64>, state: State, step: Step) -> Result<Seen, AllocError> {
+    let Step { word, xt, xt2 } = step;
+    on_tables(
+        table,
+        |table| calls::execute(table, state, word, xt, xt2),
+        |table| second_tables::execute(table, state, word, xt, xt2),
+    )
 }

@@ -1,14 +1,12 @@
 // The listing of small pieces of code.
-use crate::tally::{Seen, Tally, none, with};
+use crate::tally::{Seen, Tally};
 use inputs::{below, draw, flip, given, name_at, once_in, share_at, small, word_of};
+use listing::Listed;
 use machine::Operation;
+use std::alloc::{AllocError, Global};
 
-pub fn listings() -> Tally {
-    let mut tally = none();
-    for n in 0..3000u64 {
-        tally = with(tally, listing_seen(draw(14, n)));
-    }
-    tally
+pub fn listings(alloc: Global) -> Result<Tally, AllocError> {
+    Tally::drawn(3000, 14, |seed| listing_seen(alloc, seed))
 }
 
 fn code_word(seed: u64) -> u64 {
@@ -25,142 +23,67 @@ fn code_word(seed: u64) -> u64 {
     given(word_of(op), 6, draw(seed, 7))
 }
 
-fn set_byte(bytes: &mut [u8], i: usize, x: u8) {
-    if i < bytes.len() {
-        bytes[i] = x;
+fn listing_seen(alloc: Global, seed: u64) -> Result<Seen, AllocError> {
+    let mut code = Vec::new(alloc);
+    for place in 0..20u64 {
+        let word = (code_word(draw(draw(seed, 0), place)) % 4294967296) as u32;
+        code.extend_from_slice(word.to_le_bytes().as_slice())?;
     }
-}
-
-fn put_code(code: &mut [u8], seed: u64) {
-    for i in 0..80usize {
-        let place = i as u64;
-        set_byte(
-            code,
-            i,
-            byte_of(code_word(draw(seed, place / 4)), place % 4),
-        );
-    }
-}
-
-fn byte_of(word: u64, place: u64) -> u8 {
-    ((word >> (place % 4 * 8)) % 256) as u8
-}
-
-fn listing_seen(seed: u64) -> Seen {
-    let mut code = [0u8; 80];
-    put_code(&mut code, draw(seed, 0));
-    let n = (below(seed, 1, 81) % 81) as usize;
-    code_seen(&code, n, (52 + below(seed, 2, 300) % 300) as usize)
-}
-
-fn code_seen(code: &[u8], n: usize, room: usize) -> Seen {
-    if n <= code.len() {
-        part_seen(&code[..n], room)
-    } else {
-        Seen {
-            number: 15,
-            same: false,
-        }
-    }
+    code.truncate(below(seed, 1, 81) as usize);
+    part_seen(alloc, code.as_slice(), (52 + below(seed, 2, 300)) as usize)
 }
 
 // The second model lists the whole; the proved room lists as much as there is room for, then the rest from there on, then the tail.
-fn part_seen(code: &[u8], room: usize) -> Seen {
-    let mut theirs = [0u8; 1400];
-    let mut ours = [0u8; 1400];
-    let n = second_words::list(code, &mut theirs);
-    let first = list_some(code, &mut ours, room);
-    let rest = list_rest(code, first, &mut ours);
-    let all = list_end(code, rest, &mut ours);
-    let full = (first.used as u64 == code.len() as u64 / 4 * 4)
-        | (next_end(&theirs, first.written) > room);
-    Seen {
-        number: 0,
-        same: (all == n) & same_bytes(&ours, &theirs) & full,
-    }
+fn part_seen(alloc: Global, code: &[u8], room: usize) -> Result<Seen, AllocError> {
+    let theirs = second_words::list(alloc, code)?;
+    let mut out = vec![in alloc; 0u8; 1400]?;
+    let same = match list_parts(code, out.as_mut_slice(), room) {
+        Some(ours) => ours.is_full(code, theirs.as_bytes(), room)
+            && is_text(out.as_slice(), ours.all, theirs.as_bytes()),
+        None => false,
+    };
+    Ok(Seen { number: 0, same })
 }
 
-// How much of the code is listed, and how much text that is.
+// What was listed of the code at first, and how much text all is.
 #[derive(Clone, Copy)]
-struct Place {
-    used: usize,
-    written: usize,
+struct Parts {
+    first: Listed,
+    all: usize,
 }
 
-fn list_some(code: &[u8], out: &mut [u8], room: usize) -> Place {
-    if room <= out.len() {
-        let listed = calls::list(code, 0, &mut out[..room]);
-        Place {
-            used: listed.used,
-            written: listed.written,
-        }
-    } else {
-        Place {
-            used: 0,
-            written: 0,
-        }
-    }
-}
-
-fn list_rest(code: &[u8], place: Place, out: &mut [u8]) -> Place {
-    let from = place.used;
-    if from <= code.len() {
-        list_from(&code[from..], place, out)
-    } else {
-        place
+impl Parts {
+    // The first part ends with the code's last whole word, or where the next line has no room.
+    fn is_full(&self, code: &[u8], text: &[u8], room: usize) -> bool {
+        let written = self.first.written;
+        let rest = text.get(written..).unwrap_or(&[]);
+        self.first.used == code.len() / 4 * 4
+            || rest
+                .iter()
+                .position(|byte| *byte == b'\n')
+                .is_none_or(|end| written.saturating_add(end) >= room)
     }
 }
 
-fn list_from(code: &[u8], place: Place, out: &mut [u8]) -> Place {
-    let at = place.written;
-    if at <= out.len() {
-        let listed = calls::list(code, place.used as u64, &mut out[at..]);
-        Place {
-            used: std::num::wrapping_add_usize(place.used, listed.used),
-            written: std::num::wrapping_add_usize(at, listed.written),
-        }
-    } else {
-        place
-    }
+// The calls write into a buffer that they are lent, since the library has no heap: `room` is how much at first.
+fn list_parts(code: &[u8], out: &mut [u8], room: usize) -> Option<Parts> {
+    let first = calls::list(code, 0, out.get_mut(..room)?);
+    let rest = calls::list(
+        code.get(first.used..)?,
+        first.used as u64,
+        out.get_mut(first.written..)?,
+    );
+    let used = first.used.checked_add(rest.used)?;
+    let written = first.written.checked_add(rest.written)?;
+    let left = code.len().checked_sub(used)?;
+    let tail = calls::tail(left, out.get_mut(written..)?);
+    Some(Parts {
+        first,
+        all: written.checked_add(tail)?,
+    })
 }
 
-fn list_end(code: &[u8], place: Place, out: &mut [u8]) -> usize {
-    let at = place.written;
-    if at <= out.len() {
-        let left = std::num::wrapping_sub_usize(code.len(), place.used);
-        std::num::wrapping_add_usize(at, calls::tail(left, &mut out[at..]))
-    } else {
-        at
-    }
-}
-
-// Behind the next newline at or behind a place.
-fn next_end(text: &[u8], from: usize) -> usize {
-    for i in 0..1400usize {
-        if is_end(text, from, i) {
-            return i + 1;
-        }
-    }
-    1400
-}
-
-fn is_end(text: &[u8], from: usize, i: usize) -> bool {
-    if i < text.len() {
-        (from <= i) & (text[i] == 10)
-    } else {
-        false
-    }
-}
-
-fn same_bytes(one: &[u8], two: &[u8]) -> bool {
-    let n = one.len();
-    if n != two.len() {
-        return false;
-    }
-    for i in 0..n {
-        if one[i] != two[i] {
-            return false;
-        }
-    }
-    true
+// Whether a buffer has a text and nothing behind it.
+fn is_text(out: &[u8], len: usize, text: &[u8]) -> bool {
+    out.get(..len) == Some(text) && out.iter().skip(len).all(|byte| *byte == 0)
 }

@@ -1,10 +1,10 @@
 // The operand reader and writer.
-use crate::tally::{Seen, Tally, none, with};
+use crate::tally::{Seen, Tally};
 use inputs::{
     Parts, Step, below, draw, field_for, flip, form_at, number_for, number16, once_in, power,
     step_of,
 };
-use machine::{Operand, OperandRead, OperandWritten, Told};
+use machine::{Operand, Told};
 
 fn told_at(seed: u64) -> Told {
     Told {
@@ -19,10 +19,10 @@ fn words_at(told: Told, seed: u64) -> Step {
     let tg = if once_in(seed, 0, 12) {
         0
     } else {
-        1 + below(seed, 1, 3) % 3
+        1 + below(seed, 1, 3)
     };
     let parts = Parts {
-        top: number16(seed, 2) as u64,
+        top: u64::from(number16(seed, 2)),
         tg,
         scale: below(seed, 3, 4),
         num: number_for(draw(seed, 4)),
@@ -41,41 +41,42 @@ fn words_at(told: Told, seed: u64) -> Step {
 }
 
 pub fn reads() -> Tally {
-    let mut tally = none();
-    for n in 0..25000u64 {
+    Tally::of(25000, |n| {
         let seed = draw(6, n);
         let told = told_at(draw(seed, 0));
-        tally = with(tally, read_seen(told, words_at(told, draw(seed, 1))));
-    }
-    tally
+        let Step { xt, xt2, .. } = words_at(told, draw(seed, 1));
+        Seen::of(
+            calls::read_operand(told, xt, xt2),
+            second_tables::read(told, xt, xt2),
+        )
+    })
 }
 
-fn read_seen(told: Told, step: Step) -> Seen {
-    let ours = calls::read_operand(told, step.xt, step.xt2);
-    let theirs = second_tables::read(told, step.xt, step.xt2);
-    let second = Operand {
-        asid: theirs.asid,
-        ns: theirs.ns,
-        tg: theirs.tg,
-        scale: theirs.scale,
-        num: theirs.num,
-        ttl: theirs.ttl,
-        base: theirs.base,
-    };
-    match ours {
-        OperandRead::Fields(fields) => Seen {
-            number: 0,
-            same: (theirs.number == 0) & same_operand(fields, second),
-        },
-        OperandRead::NoGranule => Seen {
-            number: 6,
-            same: (theirs.number == 6) & same_operand(nothing(), second),
-        },
-    }
+pub fn writes() -> Tally {
+    Tally::of(36000, |n| {
+        let seed = draw(7, n);
+        let told = told_at(draw(seed, 0));
+        let fields = fields_of(told, words_at(told, draw(seed, 1)));
+        let given = if once_in(seed, 2, 3) {
+            fields
+        } else {
+            changed(fields, draw(seed, 3))
+        };
+        let other = if once_in(seed, 4, 12) {
+            told_at(draw(seed, 5))
+        } else {
+            told
+        };
+        Seen::of(
+            calls::write_operand(other, given),
+            second_tables::write(other, given),
+        )
+    })
 }
 
-fn nothing() -> Operand {
-    Operand {
+// Fields that can be written, since they were read.
+fn fields_of(told: Told, step: Step) -> Operand {
+    calls::read_operand(told, step.xt, step.xt2).unwrap_or(Operand {
         asid: 0,
         ns: 0,
         tg: 0,
@@ -83,51 +84,11 @@ fn nothing() -> Operand {
         num: 0,
         ttl: 0,
         base: 0,
-    }
-}
-
-fn same_operand(one: Operand, two: Operand) -> bool {
-    (one.asid == two.asid)
-        & (one.ns == two.ns)
-        & (one.tg == two.tg)
-        & (one.scale == two.scale)
-        & (one.num == two.num)
-        & (one.ttl == two.ttl)
-        & (one.base == two.base)
-}
-
-pub fn writes() -> Tally {
-    let mut tally = none();
-    for n in 0..36000u64 {
-        let seed = draw(7, n);
-        let told = told_at(draw(seed, 0));
-        let fields = fields_of(told, words_at(told, draw(seed, 1)));
-        let given = if once_in(seed, 2, 3) {
-            fields
-        } else {
-            changed(told, fields, draw(seed, 3))
-        };
-        let other = if once_in(seed, 4, 12) {
-            told_at(draw(seed, 5))
-        } else {
-            told
-        };
-        tally = with(tally, write_seen(other, given));
-    }
-    tally
-}
-
-// Fields that can be written, since they were read.
-fn fields_of(told: Told, step: Step) -> Operand {
-    let read = calls::read_operand(told, step.xt, step.xt2);
-    match read {
-        OperandRead::Fields(fields) => fields,
-        OperandRead::NoGranule => nothing(),
-    }
+    })
 }
 
 // One field made another, too large, or one that the form lacks.
-fn changed(told: Told, o: Operand, seed: u64) -> Operand {
+fn changed(o: Operand, seed: u64) -> Operand {
     let which = below(seed, 0, 24);
     let any = draw(seed, 1);
     Operand {
@@ -164,8 +125,7 @@ fn changed(told: Told, o: Operand, seed: u64) -> Operand {
         ttl: match which {
             15 => 4,
             16 => any,
-            10 => 1,
-            17 => 1,
+            10 | 17 => 1,
             _ => o.ttl,
         },
         base: changed_base(o, which, any),
@@ -176,27 +136,12 @@ fn changed(told: Told, o: Operand, seed: u64) -> Operand {
 fn changed_base(o: Operand, which: u64, any: u64) -> u64 {
     let granule = power(10 + o.tg % 4 * 2);
     match which {
-        18 => std::num::wrapping_add_u64(o.base, granule),
-        19 => std::num::wrapping_sub_u64(o.base, granule),
+        18 => o.base.wrapping_add(granule),
+        19 => o.base.wrapping_sub(granule),
         20 => o.base ^ power(any / 8),
         21 => o.base ^ power(47 + any / 8 % 17),
         22 => o.base ^ power(11 + any / 8 % 6),
         23 => any,
         _ => o.base,
-    }
-}
-
-fn write_seen(told: Told, fields: Operand) -> Seen {
-    let ours = calls::write_operand(told, fields);
-    let theirs = second_tables::write(told, fields);
-    match ours {
-        OperandWritten::Words(xt, xt2) => Seen {
-            number: 0,
-            same: (theirs.number == 0) & (theirs.xt == xt) & (theirs.xt2 == xt2),
-        },
-        OperandWritten::Refused => Seen {
-            number: 8,
-            same: (theirs.number == 8) & (theirs.xt == 0) & (theirs.xt2 == 0),
-        },
     }
 }

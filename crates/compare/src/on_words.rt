@@ -1,18 +1,16 @@
 // Decode and build.
-use crate::tally::{Seen, Tally, none, with};
-use inputs::{
-    below, damaged, draw, flip, name_at, name_number, once_in, share_at, share_number, small,
-    word_of,
-};
-use machine::{Built, Decoded, Operation};
-use second_words::Named;
+use crate::tally::{Seen, Tally};
+use inputs::{below, damaged, draw, flip, name_at, once_in, share_at, small, word_of};
+use machine::{Operation, Refusal};
 
 pub fn decodes() -> Tally {
-    let mut tally = none();
-    for n in 0..12000u64 {
-        tally = with(tally, decode_seen(word_at(n, draw(1, n))));
-    }
-    tally
+    Tally::of(12000, |n| {
+        let word = word_at(n, draw(1, n));
+        Seen::of(
+            calls::decode(word).ok_or(Refusal::Unknown),
+            second_words::decode(word).ok_or(Refusal::Unknown),
+        )
+    })
 }
 
 // Every op1, CRm and op2 with CRn 8 and 9 under SYS and SYSP; then other CRn; then operations with a bit turned, and any words.
@@ -61,69 +59,13 @@ fn any_operation(seed: u64) -> Operation {
     }
 }
 
-fn decode_seen(word: u64) -> Seen {
-    let ours = calls::decode(word);
-    let theirs = second_words::decode(word);
-    match ours {
-        Decoded::Known(op) => Seen {
-            number: 0,
-            same: theirs.known & same_operation(op, theirs),
-        },
-        Decoded::Unknown => Seen {
-            number: 1,
-            same: is_nothing(theirs),
-        },
-    }
-}
-
-fn same_operation(op: Operation, named: Named) -> bool {
-    let name = op.name;
-    let share = op.share;
-    (name_number(name) == named.name)
-        & (share_number(share) == named.share)
-        & (op.nxs == named.nxs)
-        & (op.tlbip == named.tlbip)
-        & (op.rt == named.rt)
-}
-
-fn is_nothing(named: Named) -> bool {
-    !named.known
-        & (named.name == 0)
-        & (named.share == 0)
-        & !named.nxs
-        & !named.tlbip
-        & (named.rt == 0)
-}
-
-pub fn builds() -> Tally {
-    let mut tally = none();
-    for n in 0..8000u64 {
-        tally = with(tally, build_seen(any_operation(draw(2, n))));
-    }
-    tally
-}
-
 // A register that no word has room for counts as a field that breaks a rule.
-fn build_seen(op: Operation) -> Seen {
-    let name = op.name;
-    let share = op.share;
-    let ours = calls::build(op);
-    let theirs = second_words::encode(Named {
-        known: true,
-        name: name_number(name),
-        share: share_number(share),
-        nxs: op.nxs,
-        tlbip: op.tlbip,
-        rt: op.rt,
-    });
-    match ours {
-        Built::Word(word) => Seen {
-            number: 0,
-            same: word == theirs,
-        },
-        Built::Unfit => Seen {
-            number: 8,
-            same: theirs == 0,
-        },
-    }
+pub fn builds() -> Tally {
+    Tally::of(8000, |n| {
+        let op = any_operation(draw(2, n));
+        Seen::of(
+            calls::build(op).ok_or(Refusal::Illegal),
+            second_words::encode(op).ok_or(Refusal::Illegal),
+        )
+    })
 }

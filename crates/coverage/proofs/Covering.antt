@@ -2,11 +2,12 @@
 use Prim.Native.Nat.{ℕ, ◌+◌, ◌*◌, ◌/◌, ◌^◌, ◌<◌, ◌≤◌}
 use mathlib.Core.Bool.{true, false}
 use mathlib.Core.List.{List}
-use mathlib.Core.Path.{◌≡◌, refl, sym, ap₂, ◌∙◌}
+use mathlib.Core.Path.{◌≡◌, refl, sym, ap, ap₂, ◌∙◌}
+use Rattle.std.specs.Prelude.{Option, Some, None, is_some, unwrap_or}
 use native.Mathlib.Decide.{dec_lt}
 use native.Mathlib.Nat.{div-lt_iff_lt-mul, le-div_iff_mul-le}
 use native.Mathlib.Omega.{arith}
-use lib.Dec.{eqb, leb}
+use lib.Dec.{leb}
 use lib.Pow.{pow-add, pow_mono, pow_pos}
 use borrow.Author.Tests.{eqb-true, leb-true}
 use Rattle.laws.proofs.Below.{Below, below_more}
@@ -18,13 +19,20 @@ use Rattle.machine.proofs.Spans.{span-most, meets-number, number-meets}
 use Rattle.machine.proofs.Tags.{legal}
 use Rattle.machine.specs.Entry.{has_asids, span_of, is_legal}
 use Rattle.machine.specs.Goes.{is_met, goes}
-use Rattle.machine.specs.Judge.{holds_asid}
+use Rattle.machine.specs.Judge.{holds_number, holds_asid}
 use Rattle.machine.specs.Span.{meets_range}
 use Rattle.machine.specs.declared.entry.Entry.{Entry}
 use Rattle.machine.specs.declared.judge.Target.{Target}
 use Rattle.machine.specs.declared.work.Work.{Work}
 use Rattle.coverage.specs.Asids.{LowestOut, Free, NamedWith, Named, NamedBy}
 use Rattle.steps.specs.Steps.{work_at, used_by}
+
+-- an ASID is one number, and none is no number
+number-one : {m n : ℕ} → Some m ≡ Some n → m ≡ n
+number-one {m} h = ap (λ (o : Option ℕ). unwrap_or o m) h
+
+none-some : {n : ℕ} → None ≡ Some n → ⊥
+none-some h = clash (ap is_some h) refl
 
 -- an entry of another granule stays
 pub other-granule : (w : Work) (e : Entry) → (e.granule ≡ w.granule → ⊥) → goes w e ≡ false
@@ -48,6 +56,8 @@ span_below w e k q s b n =
     let m : meets_range (q * 2 ^ k) k w.first w.last ≡ true = ap₂ (λ (x j : ℕ). meets_range x j w.first w.last) (sym b) s ∙ (going w e h).met in
     omega (arith, n, (number-meets k q w.first w.last m).0))
 
+pub ruleset turned_away = (other-granule, span-low, span-above, span_below)
+
 -- one that does neither is met
 pub span-met : (w : Work) (e : Entry) (k q : ℕ) → k ≡ span_of e → e.base ≡ q * 2 ^ k → w.first / 2 ^ k ≤ q → e.base ≤ w.last → is_met w e ≡ true
 span-met w e k q s b from to =
@@ -63,9 +73,11 @@ pub used-few : (works : List Work) (n a : ℕ) → Used works n a → a ≤ n
 used-few works n a h = few (λ (k b : ℕ). holds_asid b (work_at works k)) n a one h
   where
     one : (k x y : ℕ) → holds_asid x (work_at works k) ≡ true → holds_asid y (work_at works k) ≡ true → x ≡ y
-    one k x y p q =
-        let w = work_at works k in
-        sym (eqb-true w.asid x (and-1 w.one (eqb w.asid x) p)) ∙ eqb-true w.asid y (and-1 w.one (eqb w.asid y) q)
+    one k x y p q = same (work_at works k).asid x y p q
+      where
+        same : (o : Option ℕ) (x y : ℕ) → holds_number x o ≡ true → holds_number y o ≡ true → x ≡ y
+        same None x y p q = clash p refl
+        same (Some a) x y p q = sym (eqb-true a x p) ∙ eqb-true a y q
 
 pub used-end : (works : List Work) (n a : ℕ) → Used works n a → used_by works n a ≡ false → Free works n a
 used-end works n a h e = record { free = e; lowest = h }
@@ -78,25 +90,25 @@ number-most x k l h =
     (div-lt_iff_lt-mul {x = x} {y = 2 ^ 52} (pow_pos k)).1 (omega (arith, s, e))
 
 -- the ASID of the entry that is looked for, in each of its cases
-pub named-own : (t : Target) (IsFree : ℕ → Type 0) → t.one ≡ true → NamedWith t IsFree t.asid
-named-own t IsFree h = record {
-  own = λ (i : t.one ≡ true). refl;
-  free = λ (i : t.one ≡ false) (a : has_asids t.company ≡ true). clash h i;
-  none = λ (i : t.one ≡ false) (a : has_asids t.company ≡ false). clash h i;
+pub named-own : (t : Target) (IsFree : ℕ → Type 0) (n : ℕ) → t.asid ≡ Some n → NamedWith t IsFree n
+named-own t IsFree n h = record {
+  own = λ (m : ℕ) (i : t.asid ≡ Some m). number-one (sym h ∙ i);
+  free = λ (i : t.asid ≡ None) (a : has_asids t.company ≡ true). absurd (none-some (sym i ∙ h));
+  none = λ (i : t.asid ≡ None) (a : has_asids t.company ≡ false). absurd (none-some (sym i ∙ h));
 }
 
-pub named-free : (t : Target) (IsFree : ℕ → Type 0) (a : ℕ) → t.one ≡ false → has_asids t.company ≡ true → IsFree a → NamedWith t IsFree a
+pub named-free : (t : Target) (IsFree : ℕ → Type 0) (a : ℕ) → t.asid ≡ None → has_asids t.company ≡ true → IsFree a → NamedWith t IsFree a
 named-free t IsFree a h k f = record {
-  own = λ (i : t.one ≡ true). clash i h;
-  free = λ (i : t.one ≡ false) (j : has_asids t.company ≡ true). f;
-  none = λ (i : t.one ≡ false) (j : has_asids t.company ≡ false). clash k j;
+  own = λ (n : ℕ) (i : t.asid ≡ Some n). absurd (none-some (sym h ∙ i));
+  free = λ (i : t.asid ≡ None) (j : has_asids t.company ≡ true). f;
+  none = λ (i : t.asid ≡ None) (j : has_asids t.company ≡ false). clash k j;
 }
 
-pub named_none : (t : Target) (IsFree : ℕ → Type 0) → t.one ≡ false → has_asids t.company ≡ false → NamedWith t IsFree 0
+pub named_none : (t : Target) (IsFree : ℕ → Type 0) → t.asid ≡ None → has_asids t.company ≡ false → NamedWith t IsFree 0
 named_none t IsFree h k = record {
-  own = λ (i : t.one ≡ true). clash i h;
-  free = λ (i : t.one ≡ false) (j : has_asids t.company ≡ true). clash j k;
-  none = λ (i : t.one ≡ false) (j : has_asids t.company ≡ false). refl;
+  own = λ (n : ℕ) (i : t.asid ≡ Some n). absurd (none-some (sym h ∙ i));
+  free = λ (i : t.asid ≡ None) (j : has_asids t.company ≡ true). clash j k;
+  none = λ (i : t.asid ≡ None) (j : has_asids t.company ≡ false). refl;
 }
 
 -- the numbers below a are in a set: at the two ends of a loop that looks for one that is not
@@ -129,6 +141,6 @@ pub named_by : (t : Target) (works : List Work) (n used a : ℕ) → n ≤ 16 �
     Named t works n a
 named_by t works n used a most same h = record {
   own = h.own;
-  free = λ (i : t.one ≡ false) (j : has_asids t.company ≡ true). lowest-free works n used a most same (h.free i j);
+  free = λ (i : t.asid ≡ None) (j : has_asids t.company ≡ true). lowest-free works n used a most same (h.free i j);
   none = h.none;
 }

@@ -1,5 +1,5 @@
 -- The ASID of the entry that a search looks for.
-use Rattle.std.specs.Prelude.{ℕ, ◌<◌, ◌≤◌, true, false, List, ◌≡◌}
+use Rattle.std.specs.Prelude.{ℕ, ◌<◌, ◌≤◌, true, false, List, ◌≡◌, Some, None}
 use Rattle.laws.specs.Mask.{bit_of}
 use Rattle.machine.specs.Entry.{has_asids}
 use Rattle.machine.specs.declared.judge.Target.{Target}
@@ -19,9 +19,9 @@ pub record Free (works : List Work) (n a : ℕ) : Type 0 where
 
 -- the target's, or one that is free, or 0 without ASIDs
 pub record NamedWith (t : Target) (IsFree : ℕ → Type 0) (a : ℕ) : Type 0 where
-  pub own : t.one ≡ true → a ≡ t.asid
-  pub free : t.one ≡ false → has_asids t.company ≡ true → IsFree a
-  pub none : t.one ≡ false → has_asids t.company ≡ false → a ≡ 0
+  pub own : (n : ℕ) → t.asid ≡ Some n → a ≡ n
+  pub free : t.asid ≡ None → has_asids t.company ≡ true → IsFree a
+  pub none : t.asid ≡ None → has_asids t.company ≡ false → a ≡ 0
 
 -- by the steps, and by the set of those below 16 that they use
 abbrev pub Named : Target → List Work → ℕ → ℕ → Type 0

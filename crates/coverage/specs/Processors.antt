@@ -1,5 +1,5 @@
 -- The processors that a search looks at: of those that every step reaches, one stands for all.
-use Rattle.std.specs.Prelude.{ℕ, ◌<◌, ◌≤◌, Bool, true, false, not, ◌&&◌, ◌≡◌}
+use Rattle.std.specs.Prelude.{ℕ, ◌<◌, Bool, true, false, not, ◌&&◌, ◌≡◌, ltb, Option, Some, None}
 use Rattle.laws.specs.Every.{any}
 use Rattle.laws.specs.Mask.{bit_of, mask_from}
 
@@ -14,8 +14,12 @@ is_searched processors common p = bit_of processors p && not (bit_of common p &&
 unfoldable pub searched_of : ℕ → ℕ → ℕ
 searched_of processors common = mask_from (is_searched processors common) 0 8
 
--- the lowest that the target names and every step reaches, or 8
-pub record Leads (processors common r : ℕ) : Type 0 where
-  pub most : r ≤ 8
-  pub lower : (p : ℕ) → p < r → is_shared processors common p ≡ false
-  pub here : r < 8 → is_shared processors common r ≡ true
+-- a processor comes after that one, where there is one
+abbrev pub is_after : ℕ → Option ℕ → Bool
+is_after p None = false
+is_after p (Some r) = ltb r p
+
+-- the lowest that the target names and every step reaches, if there is one
+abbrev pub Leads : ℕ → ℕ → Option ℕ → Type 0
+Leads processors common None = (p : ℕ) → p < 8 → is_shared processors common p ≡ false
+Leads processors common (Some r) = ((p : ℕ) → p < r → is_shared processors common p ≡ false) × (r < 8) × (is_shared processors common r ≡ true)

@@ -6,6 +6,8 @@ use machine::Target;
 use spans::bit_of;
 
 // The lowest number below 16 that is not in a set, or 16: sixteen steps use sixteen ASIDs at most.
+// By a `for`: with `find` over the numbers the proof did not close.
+// 16 is no sign for none: it is an ASID, and the lowest free one where 0 to 15 are used.
 fn free_asid(used: u64) -> u16
     ensures { LowestOut used result }
 {
@@ -21,13 +23,9 @@ fn free_asid(used: u64) -> u16
 pub fn named_asid(used: u64, target: Target) -> u16
     ensures { NamedBy target used result }
 {
-    if target.one {
-        return target.asid;
-    }
-    let company = target.company;
-    if has_asids(company) {
-        free_asid(used)
-    } else {
-        0
+    match target.asid {
+        Some(asid) => asid,
+        None if has_asids(target.company) => free_asid(used),
+        None => 0,
     }
 }

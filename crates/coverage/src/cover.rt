@@ -7,6 +7,7 @@ use machine::{Entry, Work};
 use works::goes;
 
 // Whether a step of the entry's company drops it. The entry's span, of 2^k bytes, is number q of its size: the range of a step turns most away.
+#[tactic(auto, using(crate::proofs::Covering::turned_away))]
 pub fn is_taken(work: Work, entry: Entry, q: u64, k: u64) -> bool
     requires { (is_legal entry ≡ true) × (is_owned work entry ≡ true) × (k ≡ span_of entry) × (entry.base ≡ q * 2 ^ k) }
     ensures { result ≡ goes work entry }

@@ -8,6 +8,7 @@ use machine::{Entry, Target};
 use spans::has_span;
 
 // Non-leaf levels rising, then leaf levels rising.
+// Kinds stay numbers 0 to 6: the book's `leaf_at` and `level_at` and its order of gaps are over them.
 #[tactic(auto, unfolding(machine::specs::Judge::leaf_at))]
 pub fn leaf_at(j: u8) -> bool
     ensures { result ≡ leaf_at j }
@@ -36,17 +37,15 @@ pub fn level_at(j: u8) -> i8
 pub fn is_asked(target: Target, leaf: bool, level: i8) -> bool
     ensures { result ≡ is_asked target leaf level }
 {
-    let spanned = has_span(target.wide, target.granule as u64, level);
-    (!target.leaves | leaf) & spanned
+    (!target.leaves || leaf) && has_span(target.wide, target.granule as u64, level)
 }
 
 pub fn entry_in(target: Target, asid: u16, p: u8, leaf: bool, level: i8, base: u64) -> Entry
     ensures { result ≡ placed target asid p leaf level base }
 {
-    let company = target.company;
     Entry {
         processor: p,
-        company,
+        company: target.company,
         asid,
         global: false,
         wide: target.wide,

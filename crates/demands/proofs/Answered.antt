@@ -4,6 +4,7 @@ use Prim.Native.Nat.{ℕ, ◌^◌, ◌<◌}
 use mathlib.Core.List.{List, ◌++◌}
 use mathlib.Core.Path.{refl, ap, ◌∙◌}
 use lib.ListN.{length, drop}
+use Rattle.std.specs.Prelude.{Result, ⊤}
 use Rattle.judge.proofs.Computed.{judged_of, judged-verdict, judged-is}
 use Rattle.judge.proofs.Targets.{Fits}
 use Rattle.listing.specs.Listed.{listed_of}
@@ -14,7 +15,6 @@ use Rattle.machine.specs.Operand.{operand_of, words_of}
 use Rattle.machine.specs.Table.{inserted_of, insert_table, looked_up_of, slot_read_of}
 use Rattle.machine.specs.Word.{read_of, built_of}
 use Rattle.machine.specs.declared.entry.Entry.{Entry}
-use Rattle.machine.specs.declared.judge.Judged.{Judged}
 use Rattle.machine.specs.declared.judge.Target.{Target}
 use Rattle.machine.specs.declared.operand.Operand.{Operand}
 use Rattle.machine.specs.declared.operand.Told.{Told}
@@ -23,6 +23,7 @@ use Rattle.machine.specs.declared.processor.State.{State}
 use Rattle.machine.specs.declared.scope.Regime.{Regime}
 use Rattle.calls.specs.Promises.{Decodes, Builds, Reads, Writes, Inserts, LooksUp, ReadsSlot, Executes, Runs, Judges, Lists, Tails}
 use Rattle.demands.specs.One.{OneAnswer, One}
+use Rattle.machine.specs.declared.judge.Objection.{Objection}
 
 pub decode-one : (word : ℕ) → OneAnswer (Decodes word)
 decode-one word = record { answer = read_of word; kept = refl; only = λ r h. h }
@@ -60,7 +61,7 @@ pub judge-one : (st : State) (t : Target) (steps : List ℕ) → st.vmid < 2 ^ 1
 judge-one st t steps low f = record {
   answer = judged_of st t steps;
   kept = judged-verdict st t steps f;
-  only = λ (r : Judged) (v : Judges st t steps r). judged-is st t steps r low f v;
+  only = λ (r : Result ⊤ Objection) (v : Judges st t steps r). judged-is st t steps r low f v;
 }
 
 pub list-one : (code : List ℕ) (at : ℕ) (room : List ℕ) → One (Lists code at room)

@@ -5,16 +5,17 @@ use mathlib.Core.List.{List, [], ◌∷◌, ◌++◌}
 use mathlib.Core.Path.{◌≡◌}
 use lib.Dec.{eqb}
 use lib.IntN.{ℤ, pos}
+use Rattle.std.specs.Prelude.{None, Result, ⊤}
 use Rattle.machine.proofs.Sample.{two, three, NV, no_lpa2, three-processors, state_on, at, guest, page, placed_of, slot, zeros}
-use Rattle.machine.specs.Answer.{executed_number, executed_trap, executed_dropped, judged_number, judged_entry, no_entry}
+use Rattle.machine.specs.Answer.{number_of, trap_of, value_of, judged_number, judged_entry, no_entry}
 use Rattle.machine.specs.Execute.{resolved_of, on_work}
 use Rattle.machine.specs.State.{bad_state}
 use Rattle.machine.specs.declared.entry.Entry.{Entry}
-use Rattle.machine.specs.declared.judge.Judged.{Judged}
 use Rattle.machine.specs.declared.judge.Target.{Target}
 use Rattle.machine.specs.declared.processor.State.{State}
-use Rattle.machine.specs.declared.work.Executed.{Executed}
 use Rattle.calls.specs.Promises.{Executes, Judges}
+use Rattle.machine.specs.declared.refusal.Refusal.{Refusal}
+use Rattle.machine.specs.declared.judge.Objection.{Objection}
 
 -- An example: what goes in, and what comes out.
 pub data Example : Type 0 where
@@ -50,7 +51,7 @@ branch tg l = slot (placed_of false tg l false false 0) 5
 
 -- "target 0x40000000 to 0x40003FFF, all ASIDs, 64-bit 4K, all levels, the step's company, IS reaching every named processor"
 abbrev target : Target
-target = record { company = guest; wide = false; granule = 1; one = false; asid = 0; leaves = false; processors = 3; first = 0x40000000; last = 0x40003FFF }
+target = record { company = guest; wide = false; granule = 1; asid = None; leaves = false; processors = 3; first = 0x40000000; last = 0x40003FFF }
 
 -- "level 3 leaf at 0x40002000"
 abbrev survivor : Entry
@@ -100,9 +101,9 @@ examples =
 abbrev pub Shows : Example → Type 0
 Shows (range st word xt start end) = (bad_state st ≡ false) × (on_work (λ w. eqb w.first start && eqb w.last end) (resolved_of st word xt 0) ≡ true)
 Shows (execution st word xt l number trap dropped after) =
-    (r : Executed) (m : List ℕ) → Executes st word xt 0 l r m →
-    (executed_number r ≡ number) × (executed_trap r ≡ trap) × (executed_dropped r ≡ dropped) × (m ≡ after)
-Shows (judgement st t steps number e) = (r : Judged) → Judges st t steps r → (judged_number r ≡ number) × (judged_entry r ≡ e)
+    (r : Result ℕ Refusal) (m : List ℕ) → Executes st word xt 0 l r m →
+    (number_of r ≡ number) × (trap_of r ≡ trap) × (value_of r ≡ dropped) × (m ≡ after)
+Shows (judgement st t steps number e) = (r : Result ⊤ Objection) → Judges st t steps r → (judged_number r ≡ number) × (judged_entry r ≡ e)
 
 pub data All (P : Example → Type 0) : List Example → Type 0 where
   none : All P []

@@ -1,29 +1,25 @@
 -- The C interface: what each function of it promises leaves one number, one record and one content of lent memory, and which.
-use Prim.Native.Nat.{ℕ, ◌^◌, ◌<◌}
+use Prim.Native.Nat.{ℕ, ◌%◌, ◌^◌, ◌<◌}
 use mathlib.Core.Bool.{Bool, true, false, cond}
 use mathlib.Core.List.{List}
 use mathlib.Core.Path.{◌≡◌, refl, ap, ◌∙◌}
 use native.Mathlib.Nat.{mod-lt}
 use native.Mathlib.Omega.{arith}
+use Rattle.std.specs.Prelude.{Some, None, IfSome, Result, Err}
 use Rattle.board.specs.Answers.{Answers, done, listed_words, tailed_words}
 use Rattle.calls.specs.Promises.{Decodes, Builds, Reads, Writes, Inserts, LooksUp, ReadsSlot, Executes, Runs, Judges, Lists, Tails}
 use Rattle.judge.proofs.Targets.{Fits}
 use Rattle.laws.specs.Slots.{slots, first, some}
-use Rattle.machine.specs.Answer.{decoded_number, built_number, inserted_number, slot_number, executed_number, ran_number, judged_number}
+use Rattle.machine.specs.Answer.{decoded_number, built_number, number_of, judged_number}
 use Rattle.machine.specs.Execute.{is_list}
 use Rattle.machine.specs.State.{bad_state}
 use Rattle.machine.specs.Table.{is_table, stage1_of, matches, found_at, found_by, looked_up_of}
 use Rattle.machine.specs.Tag.{regime_at}
 use Rattle.machine.specs.declared.processor.State.{State}
 use Rattle.machine.specs.declared.scope.Regime.{Regime}
-use Rattle.machine.specs.declared.table.Inserted.{Inserted}
-use Rattle.machine.specs.declared.table.LookedUp.{LookedUp}
-use Rattle.machine.specs.declared.table.LookedUp.TheVariants.{NotFound}
-use Rattle.machine.specs.declared.work.Executed.{Executed}
-use Rattle.machine.specs.declared.work.Ran.{Ran}
 use Rattle.received.proofs.Unfit.{state-unfit, entry-unfit, target-unfit, operation-unfit}
 use Rattle.received.specs.Entries.{company_in, entry_fits, entry_in}
-use Rattle.received.specs.Numbers.{is_regime}
+use Rattle.received.specs.Numbers.{flag_in, is_regime}
 use Rattle.received.specs.Operands.{told_fits, told_in, fields_in}
 use Rattle.received.specs.Operations.{operation_fits, operation_in}
 use Rattle.received.specs.States.{state_fits, state_in}
@@ -39,6 +35,9 @@ use Rattle.returned.specs.Words.{decoded_words, built_words, inserted_words, slo
 use Rattle.demands.proofs.Answered.{decode-one, build-one, read_one, write-one, insert-one, look-up-one, read-slot-one, execute-one, run-one, judge-one, list-one, tail-one}
 use Rattle.demands.proofs.Refused.{execute-number, insert-number, run-number, judge-number}
 use Rattle.demands.specs.One.{OneAnswer, One}
+use Rattle.machine.specs.declared.refusal.Refusal.{Refusal}
+use Rattle.machine.specs.declared.refusal.Refusal.TheVariants as refusal
+use Rattle.machine.specs.declared.table.Match.{Match}
 
 -- there are a number and a record that keep the promise, and no others: those of the call's one answer
 pub record Linked {A : Type 0} (number : A → ℕ) (words : A → List ℕ) (promise : A → Type 0) : Type 0 where
@@ -85,20 +84,20 @@ read-linked t xt xt2 = linked _ _ _ (read_one (told_in t) xt xt2)
 pub write-linked : (t : ToldRecord) (f : FieldsRecord) → Linked (written_number_if (told_fits t)) (written_words_if (told_fits t)) (Writes (told_in t) (fields_in f))
 write-linked t f = linked _ _ _ (write-one (told_in t) (fields_in f))
 
-pub insert-linked : (e : EntryRecord) (output : ℕ) (l : List ℕ) → LinkedOver inserted_number inserted_words (Inserts (entry_in e) output l)
+pub insert-linked : (e : EntryRecord) (output : ℕ) (l : List ℕ) → LinkedOver number_of inserted_words (Inserts (entry_in e) output l)
 insert-linked e output l = linked-over _ _ _ (insert-one (entry_in e) output l)
 
 pub look-up-linked : (s : StateRecord) (g asid address : ℕ) (l : List ℕ) →
     LinkedOver (found_number (is_regime g)) (found_words (is_regime g)) (LooksUp (state_in s) (regime_at g) asid address l)
 look-up-linked s g asid address l = linked-over _ _ _ (look-up-one (state_in s) (regime_at g) asid address l)
 
-pub read-slot-linked : (k : ℕ) (l : List ℕ) → LinkedOver slot_number slot_words (ReadsSlot k l)
+pub read-slot-linked : (k : ℕ) (l : List ℕ) → LinkedOver number_of slot_words (ReadsSlot k l)
 read-slot-linked k l = linked-over _ _ _ (read-slot-one k l)
 
-pub execute-linked : (s : StateRecord) (word xt xt2 : ℕ) (l : List ℕ) → LinkedOver executed_number executed_words (Executes (state_in s) word xt xt2 l)
+pub execute-linked : (s : StateRecord) (word xt xt2 : ℕ) (l : List ℕ) → LinkedOver number_of executed_words (Executes (state_in s) word xt xt2 l)
 execute-linked s word xt xt2 l = linked-over _ _ _ (execute-one (state_in s) word xt xt2 l)
 
-pub run-linked : (s : StateRecord) (steps l : List ℕ) → LinkedOver ran_number ran_words (Runs (state_in s) steps l)
+pub run-linked : (s : StateRecord) (steps l : List ℕ) → LinkedOver number_of ran_words (Runs (state_in s) steps l)
 run-linked s steps l = linked-over _ _ _ (run-one (state_in s) steps l)
 
 -- a VMID has 16 bits and an address 64, by their types
@@ -106,9 +105,13 @@ vmid-low : (s : StateRecord) → s.vmid < 2 ^ 16 → (state_in s).vmid < 2 ^ 16
 unfolding state_in
 vmid-low s low = low
 
+asid-low : (one : Bool) (a : ℕ) → IfSome (cond one (Some (a % 65536)) None) (λ n. n < 2 ^ 16)
+asid-low true a = mod-lt a (omega arith)
+asid-low false a = tt
+
 target-sized : (t : TargetRecord) → t.first < 2 ^ 64 → t.last < 2 ^ 64 → Fits (target_in t)
 unfolding target_in company_in
-target-sized t first last = record { vmid = mod-lt t.company.vmid (omega arith); asid = mod-lt t.asid (omega arith); first = first; last = last }
+target-sized t first last = record { vmid = mod-lt t.company.vmid (omega arith); asid = asid-low (flag_in t.one) t.asid; first = first; last = last }
 
 pub judge-linked : (s : StateRecord) (t : TargetRecord) (steps : List ℕ) → s.vmid < 2 ^ 16 → t.first < 2 ^ 64 → t.last < 2 ^ 64 →
     Linked judged_number judged_words (Judges (state_in s) (target_in t) steps)
@@ -122,10 +125,10 @@ tail-linked left room = linked-over _ _ _ (tail-one left room)
 
 -- a value that no field can have is answered 2 in a state and 8 elsewhere, like any other bad state, entry or target; 13 comes first
 pub execute-unfit : (s : StateRecord) (word xt xt2 : ℕ) (l : List ℕ) (r : ℕ) (out m : List ℕ) →
-    Answers executed_number executed_words (λ (a : Executed). Executes (state_in s) word xt xt2 l a m) r out → is_table l ≡ true → state_fits s ≡ false → r ≡ 2
+    Answers number_of executed_words (λ (a : Result ℕ Refusal). Executes (state_in s) word xt xt2 l a m) r out → is_table l ≡ true → state_fits s ≡ false → r ≡ 2
 execute-unfit s word xt xt2 l r out m h shape f = h.numbered ∙ execute-number (state_in s) word xt xt2 l h.answer m h.kept ∙ simp (shape, state-unfit s f)
 
-pub run-unfit : (s : StateRecord) (steps l : List ℕ) (r : ℕ) (out m : List ℕ) → Answers ran_number ran_words (λ (a : Ran). Runs (state_in s) steps l a m) r out → is_table l ≡ true →
+pub run-unfit : (s : StateRecord) (steps l : List ℕ) (r : ℕ) (out m : List ℕ) → Answers number_of ran_words (λ (a : Result ℕ Refusal). Runs (state_in s) steps l a m) r out → is_table l ≡ true →
     is_list steps ≡ true → state_fits s ≡ false → r ≡ 2
 run-unfit s steps l r out m h shape few f = h.numbered ∙ run-number (state_in s) steps l h.answer m h.kept ∙ simp (shape, few, state-unfit s f)
 
@@ -139,7 +142,7 @@ judge-unfit-target s t steps r out low h few good f =
     h.numbered ∙ judge-number (state_in s) (target_in t) steps h.answer (vmid-low s low) h.kept ∙ simp (few, good, target-unfit (state_in s) t f)
 
 pub insert-unfit : (e : EntryRecord) (output : ℕ) (l : List ℕ) (r : ℕ) (out m : List ℕ) →
-    Answers inserted_number inserted_words (λ (a : Inserted). Inserts (entry_in e) output l a m) r out → is_table l ≡ true → entry_fits e ≡ false → r ≡ 8
+    Answers number_of inserted_words (λ (a : Result ℕ Refusal). Inserts (entry_in e) output l a m) r out → is_table l ≡ true → entry_fits e ≡ false → r ≡ 8
 insert-unfit e output l r out m h shape f = h.numbered ∙ insert-number (entry_in e) output l h.answer m h.kept ∙ simp (shape, entry-unfit e f)
 
 pub build-unfit : (o : OperationRecord) (r : ℕ) (out : List ℕ) → Answers built_number built_words (Builds (operation_in o)) r out → operation_fits o ≡ false → r ≡ 8
@@ -161,12 +164,12 @@ searched st g asid address l shape good =
     let by : looked_up_of st g asid address l ≡ found_by p l = simp (shape, good) in
     ap (found_number false) by ∙ either (some p l) (first p l)
   where
-    either : (b : Bool) (k : ℕ) → found_number false (cond b (found_at k l) (NotFound (slots l))) ≡ 8
+    either : (b : Bool) (k : ℕ) → found_number false (cond b (found_at k l) (Err (refusal.NotFound (slots l)))) ≡ 8
     either true k = refl
     either false k = refl
 
 pub look-up-unfit : (s : StateRecord) (g asid address : ℕ) (l : List ℕ) (r : ℕ) (out m : List ℕ) →
-    Answers (found_number (is_regime g)) (found_words (is_regime g)) (λ (a : LookedUp). LooksUp (state_in s) (regime_at g) asid address l a m) r out → is_table l ≡ true →
+    Answers (found_number (is_regime g)) (found_words (is_regime g)) (λ (a : Result Match Refusal). LooksUp (state_in s) (regime_at g) asid address l a m) r out → is_table l ≡ true →
     bad_state (state_in s) ≡ false → is_regime g ≡ false → r ≡ 8
 look-up-unfit s g asid address l r out m h shape good f =
     h.numbered ∙ ap (λ (b : Bool). found_number b h.answer) f ∙ ap (found_number false) h.kept.0 ∙ searched (state_in s) (regime_at g) asid address l shape good

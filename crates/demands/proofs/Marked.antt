@@ -5,6 +5,7 @@ use mathlib.Core.List.{List, [], ◌∷◌}
 use mathlib.Core.Path.{◌≡◌, refl, sym, ap, ap₂, ◌∙◌}
 use lib.Dec.{eqb, ltb, leb}
 use borrow.Author.Tests.{eqb-true, ltb-true, leb-true, not-true}
+use Rattle.std.specs.Prelude.{Option, Some, None, IfSome, Result, ⊤}
 use Rattle.judge.proofs.Computed.{works_of, free_asid, named_asid, cover_at, gap_base, gap_kind, gap_processor, judged_of, judged-is}
 use Rattle.judge.proofs.Targets.{Fits}
 use Rattle.coverage.specs.Places.{is_asked}
@@ -15,7 +16,7 @@ use Rattle.laws.specs.Mask.{mask_from}
 use Rattle.laws.specs.Slots.{count, first, cleared}
 use Rattle.machine.proofs.Tags.{entry-back}
 use Rattle.machine.specs.Access.{is_barred, is_trapped, reaches, reached_of, scope_of, access_e1, access_stage2, access_of, is_unit_64k}
-use Rattle.machine.specs.Answer.{executed_number, executed_trap, executed_dropped, judged_number, judged_entry}
+use Rattle.machine.specs.Answer.{number_of, trap_of, value_of, judged_number, judged_entry}
 use Rattle.machine.specs.Asked.{form_of, told_of, asked_of}
 use Rattle.machine.specs.Entry.{is_company, has_asids, in_reach, is_legal}
 use Rattle.machine.specs.Execute.{resolved_of, executed_of, execute_table, on_work}
@@ -30,12 +31,12 @@ use Rattle.machine.specs.Tag.{company_tag, tag_of, company_at, entry_at, is_entr
 use Rattle.machine.specs.Target.{are_addresses, is_target}
 use Rattle.machine.specs.Word.{row_of, read_of}
 use Rattle.machine.specs.declared.entry.Entry.{Entry}
-use Rattle.machine.specs.declared.judge.Judged.{Judged}
 use Rattle.machine.specs.declared.judge.Target.{Target}
 use Rattle.machine.specs.declared.processor.State.{State}
-use Rattle.machine.specs.declared.work.Executed.{Executed}
 use Rattle.demands.proofs.Examples.{Example, range, execution, judgement, examples, Shows, All, none, more}
 use Rattle.calls.specs.Promises.{Executes, Judges}
+use Rattle.machine.specs.declared.refusal.Refusal.{Refusal}
+use Rattle.machine.specs.declared.judge.Objection.{Objection}
 
 -- The test.
 unfoldable same : List ℕ → List ℕ → Bool
@@ -50,20 +51,24 @@ is_sized e = ltb e.company.vmid (2 ^ 16) && ltb e.asid (2 ^ 16) && leb e.process
 abbrev same_entry : Entry → Entry → Bool
 same_entry d e = is_sized d && is_sized e && eqb d.base e.base && eqb (tag_of d) (tag_of e)
 
+abbrev is_sized_asid : Option ℕ → Bool
+is_sized_asid None = true
+is_sized_asid (Some n) = ltb n (2 ^ 16)
+
 abbrev fits : State → Target → Bool
 fits st t =
     ltb st.vmid (2 ^ 16)
     && ltb t.company.vmid (2 ^ 16)
-    && ltb t.asid (2 ^ 16)
+    && is_sized_asid t.asid
     && ltb t.first (2 ^ 64)
     && ltb t.last (2 ^ 64)
 
 abbrev shown : Example → Bool
 shown (range st word xt start end) = not (bad_state st) && on_work (λ w. eqb w.first start && eqb w.last end) (resolved_of st word xt 0)
 shown (execution st word xt l number trap dropped after) =
-    eqb (executed_number (executed_of st word xt 0 l)) number
-    && eqb (executed_trap (executed_of st word xt 0 l)) trap
-    && eqb (executed_dropped (executed_of st word xt 0 l)) dropped
+    eqb (number_of (executed_of st word xt 0 l)) number
+    && eqb (trap_of (executed_of st word xt 0 l)) trap
+    && eqb (value_of (executed_of st word xt 0 l)) dropped
     && same (execute_table st word xt 0 l) after
 shown (judgement st t steps number e) =
     fits st t && eqb (judged_number (judged_of st t steps)) number && same_entry (judged_entry (judged_of st t steps)) e
@@ -112,11 +117,15 @@ same-entry d e h =
     ∙ ap₂ entry_at (eqb-true d.base e.base (and-1 (a && b) base h2)) (eqb-true (tag_of d) (tag_of e) (and-1 (a && b && base) tag h))
     ∙ sized-back e (and-1 a b h1)
 
+sized-asid : (o : Option ℕ) → is_sized_asid o ≡ true → IfSome o (λ n. n < 2 ^ 16)
+sized-asid None h = tt
+sized-asid (Some n) h = ltb-true n (2 ^ 16) h
+
 target_fits : (st : State) (t : Target) → fits st t ≡ true → (st.vmid < 2 ^ 16) × Fits t
 target_fits st t h =
     let a = ltb st.vmid (2 ^ 16) in
     let b = ltb t.company.vmid (2 ^ 16) in
-    let c = ltb t.asid (2 ^ 16) in
+    let c = is_sized_asid t.asid in
     let d = ltb t.first (2 ^ 64) in
     let e = ltb t.last (2 ^ 64) in
     let h3 = and_0 (a && b && c && d) e h in
@@ -125,7 +134,7 @@ target_fits st t h =
       ltb-true st.vmid (2 ^ 16) (and_0 a b h1),
       record {
         vmid = ltb-true t.company.vmid (2 ^ 16) (and-1 a b h1);
-        asid = ltb-true t.asid (2 ^ 16) (and-1 (a && b) c h2);
+        asid = sized-asid t.asid (and-1 (a && b) c h2);
         first = ltb-true t.first (2 ^ 64) (and-1 (a && b && c) d h3);
         last = ltb-true t.last (2 ^ 64) (and-1 (a && b && c && d) e h);
       },
@@ -138,16 +147,16 @@ shows (range st word xt start end) h =
     (not-true (bad_state st) (and_0 a b h), and-1 a b h)
 shows (execution st word xt l number trap dropped after) h =
     let x = executed_of st word xt 0 l in
-    let a = eqb (executed_number x) number in
-    let b = eqb (executed_trap x) trap in
-    let c = eqb (executed_dropped x) dropped in
+    let a = eqb (number_of x) number in
+    let b = eqb (trap_of x) trap in
+    let c = eqb (value_of x) dropped in
     let d = same (execute_table st word xt 0 l) after in
     let h2 = and_0 (a && b && c) d h in
     let h1 = and_0 (a && b) c h2 in
-    λ (r : Executed) (m : List ℕ) (p : Executes st word xt 0 l r m). (
-      ap executed_number p.0 ∙ eqb-true (executed_number x) number (and_0 a b h1),
-      ap executed_trap p.0 ∙ eqb-true (executed_trap x) trap (and-1 a b h1),
-      ap executed_dropped p.0 ∙ eqb-true (executed_dropped x) dropped (and-1 (a && b) c h2),
+    λ (r : Result ℕ Refusal) (m : List ℕ) (p : Executes st word xt 0 l r m). (
+      ap number_of p.0 ∙ eqb-true (number_of x) number (and_0 a b h1),
+      ap trap_of p.0 ∙ eqb-true (trap_of x) trap (and-1 a b h1),
+      ap value_of p.0 ∙ eqb-true (value_of x) dropped (and-1 (a && b) c h2),
       p.1 ∙ same-is (execute_table st word xt 0 l) after (and-1 (a && b && c) d h),
     )
 shows (judgement st t steps number e) h =
@@ -157,7 +166,7 @@ shows (judgement st t steps number e) h =
     let c = same_entry (judged_entry x) e in
     let h1 = and_0 (a && b) c h in
     let (low, f) = target_fits st t (and_0 a b h1) in
-    λ (r : Judged) (v : Judges st t steps r).
+    λ (r : Result ⊤ Objection) (v : Judges st t steps r).
     let is : r ≡ x = judged-is st t steps r low f v in
     (ap judged_number is ∙ eqb-true (judged_number x) number (and-1 a b h1), ap judged_entry is ∙ same-entry (judged_entry x) e (and-1 (a && b) c h))
 

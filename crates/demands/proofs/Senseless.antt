@@ -7,6 +7,7 @@ use mathlib.Core.Path.{◌≡◌, refl, sym, ap, ◌∙◌}
 use lib.Dec.{ltb}
 use lib.ListN.{length, get_or}
 use borrow.Author.Tests.{ltb-true, not-true}
+use Rattle.std.specs.Prelude.{Result, Ok, Err}
 use Rattle.laws.proofs.Clearing.{cleared-length, cleared-slot, cleared-alike, cleared-swap}
 use Rattle.laws.proofs.Slots.{first_holds}
 use Rattle.laws.proofs.Truth.{clash}
@@ -23,13 +24,10 @@ use Rattle.machine.specs.Tag.{is_entry}
 use Rattle.machine.specs.declared.entry.Entry.{Entry}
 use Rattle.machine.specs.declared.processor.State.{State}
 use Rattle.machine.specs.declared.scope.Regime.{Regime}
-use Rattle.machine.specs.declared.table.Inserted.TheVariants as inserted
-use Rattle.machine.specs.declared.table.LookedUp.{LookedUp}
-use Rattle.machine.specs.declared.table.LookedUp.TheVariants as looked
-use Rattle.machine.specs.declared.work.Executed.{Executed}
-use Rattle.machine.specs.declared.work.Executed.TheVariants as executed
-use Rattle.machine.specs.declared.work.Resolved.{Resolved}
-use Rattle.machine.specs.declared.work.Resolved.TheVariants as resolved
+use Rattle.machine.specs.declared.refusal.Refusal.{Refusal}
+use Rattle.machine.specs.declared.refusal.Refusal.TheVariants as refusal
+use Rattle.machine.specs.declared.table.Match.{Match}
+use Rattle.machine.specs.declared.work.Work.{Work}
 
 -- "A slot that insert couldn't have written makes no sense and reads as empty": it reads as an entry exactly where a legal entry and an output word
 -- give its three words
@@ -49,48 +47,38 @@ unfolding inserted_of
 insert-unhindered e l =
     let place = (cleared-alike is_empty is_empty (λ (a b c : ℕ) (h : is_empty a b c ≡ true). ap not (zero-empty 0) ∙ sym h) l).0 in
     let long = cleared-length is_empty l in
-    ap (λ (t : Bool). cond t (cond (is_legal e) (cond (some is_empty (sensible l)) (inserted.At (first is_empty (sensible l))) inserted.Full) inserted.Illegal) inserted.BadShape) (shape_same 6144 l)
-    ∙ ap (λ (n : ℕ). cond (is_table l) (cond (is_legal e) (cond (ltb n (length (sensible l) / 3)) (inserted.At n) inserted.Full) inserted.Illegal) inserted.BadShape) place
-    ∙ ap (λ (n : ℕ). cond (is_table l) (cond (is_legal e) (cond (ltb (first is_empty l) (n / 3)) (inserted.At (first is_empty l)) inserted.Full) inserted.Illegal) inserted.BadShape) long
+    ap (λ (t : Bool). cond t (cond (is_legal e) (cond (some is_empty (sensible l)) (Ok (first is_empty (sensible l))) (Err refusal.Full)) (Err refusal.Illegal)) (Err refusal.BadShape)) (shape_same 6144 l)
+    ∙ ap (λ (n : ℕ). cond (is_table l) (cond (is_legal e) (cond (ltb n (length (sensible l) / 3)) (Ok n) (Err refusal.Full)) (Err refusal.Illegal)) (Err refusal.BadShape)) place
+    ∙ ap (λ (n : ℕ). cond (is_table l) (cond (is_legal e) (cond (ltb (first is_empty l) (n / 3)) (Ok (first is_empty l)) (Err refusal.Full)) (Err refusal.Illegal)) (Err refusal.BadShape)) long
 
 pub execute-unhindered : (st : State) (word xt xt2 : ℕ) (l : List ℕ) →
     (executed_of st word xt xt2 (sensible l) ≡ executed_of st word xt xt2 l) × (execute_table st word xt xt2 (sensible l) ≡ sensible (execute_table st word xt xt2 l))
 unfolding executed_of execute_table
 execute-unhindered st word xt xt2 l = (
-  ap (λ (t : Bool). cond t (cond (bad_state st) executed.BadState (executed_by (resolved_of st word xt xt2) (sensible l))) executed.BadShape) (shape_same 6144 l)
-      ∙ ap (λ (x : Executed). cond (is_table l) (cond (bad_state st) executed.BadState x) executed.BadShape) (answer (resolved_of st word xt xt2)),
+  ap (λ (t : Bool). cond t (cond (bad_state st) (Err refusal.BadState) (executed_by (resolved_of st word xt xt2) (sensible l))) (Err refusal.BadShape)) (shape_same 6144 l)
+      ∙ ap (λ (x : Result ℕ Refusal). cond (is_table l) (cond (bad_state st) (Err refusal.BadState) x) (Err refusal.BadShape)) (answer (resolved_of st word xt xt2)),
   ap (λ (t : Bool). cond t (cond (bad_state st) (sensible l) (table_by (resolved_of st word xt xt2) (sensible l))) (sensible l)) (shape_same 6144 l)
       ∙ table (is_table l) (bad_state st) (resolved_of st word xt xt2),
 )
   where
-    answer : (r : Resolved) → executed_by r (sensible l) ≡ executed_by r l
-    answer (resolved.Works w) =
-        ap executed.Dropped
+    answer : (r : Result Work Refusal) → executed_by r (sensible l) ≡ executed_by r l
+    answer (Ok w) =
+        ap Ok
         (cleared-alike (drops w) is_empty
         (λ (a b c : ℕ) (h : is_empty a b c ≡ true). drop-empty w 0 0 0 (zero-empty 0) ∙ sym (drop-empty w a b c (not-true (is_entry a b) h))) l).1
-    answer resolved.Unknown = refl
-    answer resolved.Undefined = refl
-    answer (resolved.Trapped v) = refl
-    answer resolved.NoEffect = refl
-    answer resolved.NoGranule = refl
-    answer resolved.Unpredictable = refl
+    answer (Err r) = refl
 
-    table : (a b : Bool) (r : Resolved) → cond a (cond b (sensible l) (table_by r (sensible l))) (sensible l) ≡ sensible (cond a (cond b l (table_by r l)) l)
+    table : (a b : Bool) (r : Result Work Refusal) → cond a (cond b (sensible l) (table_by r (sensible l))) (sensible l) ≡ sensible (cond a (cond b l (table_by r l)) l)
     table true true r = refl
-    table true false (resolved.Works w) = cleared-swap (drops w) is_empty l
-    table true false resolved.Unknown = refl
-    table true false resolved.Undefined = refl
-    table true false (resolved.Trapped v) = refl
-    table true false resolved.NoEffect = refl
-    table true false resolved.NoGranule = refl
-    table true false resolved.Unpredictable = refl
+    table true false (Ok w) = cleared-swap (drops w) is_empty l
+    table true false (Err r) = refl
     table false b r = refl
 
 pub look-up-unhindered : (st : State) (g : Regime) (asid address : ℕ) (l : List ℕ) → looked_up_of st g asid address (sensible l) ≡ looked_up_of st g asid address l
 unfolding looked_up_of
 look-up-unhindered st g asid address l =
-    ap (λ (t : Bool). cond t (cond (bad_state st) looked.BadState (found_by p (sensible l))) looked.BadShape) (shape_same 6144 l)
-    ∙ ap (λ (x : LookedUp). cond (is_table l) (cond (bad_state st) looked.BadState x) looked.BadShape) found
+    ap (λ (t : Bool). cond t (cond (bad_state st) (Err refusal.BadState) (found_by p (sensible l))) (Err refusal.BadShape)) (shape_same 6144 l)
+    ∙ ap (λ (x : Result Match Refusal). cond (is_table l) (cond (bad_state st) (Err refusal.BadState) x) (Err refusal.BadShape)) found
   where
     p : ℕ → ℕ → ℕ → Bool
     p = matches (stage1_of st g) st.board.own asid address
@@ -117,10 +105,10 @@ look-up-unhindered st g asid address l =
 
     found : found_by p (sensible l) ≡ found_by p l
     found =
-        ap (λ (k : ℕ). cond (ltb k (slots (sensible l))) (found_at k (sensible l)) (looked.NotFound (slots (sensible l)))) place
-        ∙ ap (λ (n : ℕ). cond (ltb (first p l) n) (found_at (first p l) (sensible l)) (looked.NotFound n)) long
+        ap (λ (k : ℕ). cond (ltb k (slots (sensible l))) (found_at k (sensible l)) (Err (refusal.NotFound (slots (sensible l))))) place
+        ∙ ap (λ (n : ℕ). cond (ltb (first p l) n) (found_at (first p l) (sensible l)) (Err (refusal.NotFound n))) long
         ∙ go (some p l) refl
       where
-        go : (t : Bool) → some p l ≡ t → cond t (found_at (first p l) (sensible l)) (looked.NotFound (slots l)) ≡ cond t (found_at (first p l) l) (looked.NotFound (slots l))
-        go true e = ap (λ (o : ℕ). looked.Found (record { slot = first p l; out = o; examined = first p l + 1 })) (word (ltb-true (first p l) (slots l) e))
+        go : (t : Bool) → some p l ≡ t → cond t (found_at (first p l) (sensible l)) (Err (refusal.NotFound (slots l))) ≡ cond t (found_at (first p l) l) (Err (refusal.NotFound (slots l)))
+        go true e = ap (λ (o : ℕ). Ok (record { slot = first p l; out = o; examined = first p l + 1 })) (word (ltb-true (first p l) (slots l) e))
         go false e = refl

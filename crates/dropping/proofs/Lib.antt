@@ -1,4 +1,3 @@
 -- Laws of this room.
 pub mod Apart
 pub mod Keyed
-pub mod Rows

@@ -1,7 +1,6 @@
 // Dropping: one pass over a table, which clears the entries that go.
 #![tactic(auto)]
 
-mod ends;
 mod slots;
 
 pub use slots::drop_all;

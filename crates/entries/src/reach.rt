@@ -12,7 +12,7 @@ pub fn in_reach(company: Company, base: u64) -> bool
 {
     let top = base / 0x80000000000000 % 512;
     if has_asids(company) {
-        (top == 0) | (top == 511)
+        matches!(top, 0 | 511)
     } else {
         base < 0x100000000000000
     }

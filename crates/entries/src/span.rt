@@ -5,6 +5,7 @@ ghost use Rattle.machine.specs.Entry.{span_of, is_legal};
 use machine::Entry;
 use spans::exponent_of;
 
+// That an entry is legal stands in clauses and in no type: the pages name `span_of` and `goes` as functions of plain entries.
 // Its exponent, of which the base is a multiple.
 pub fn span_of(entry: Entry) -> u64
     requires { is_legal entry ≡ true }

@@ -1,25 +1,25 @@
 // Legal entries of every kind, and the same with one field changed, so that one rule alone may refuse them.
 use crate::exponents::{exponent, height_with_span};
 use crate::going::has_ids;
-use crate::numbers::{height_of, level_at, regime_at, regime_number, security_at};
+use crate::numbers::{height_of, level_at, regime_at, security_at};
 use crate::seeds::{below, down, draw, flip, number16, once_in, power, small};
 use machine::{Company, Entry};
 
 pub fn legal_company(seed: u64) -> Company {
     let r = below(seed, 0, 5);
-    let stage2 = (r == 4) | ((r == 0) & once_in(seed, 1, 4));
+    let stage2 = r == 4 || r == 0 && once_in(seed, 1, 4);
     let regime = if r == 4 { 0 } else { r };
-    let s = if r == 3 {
-        below(seed, 2, 2) % 2 * 3
+    let security = if r == 3 {
+        3 * below(seed, 2, 2)
     } else {
         below(seed, 2, 3)
     };
     Company {
         regime: regime_at(regime),
-        security: security_at(s),
+        security: security_at(security),
         vmid: if regime == 0 { number16(seed, 3) } else { 0 },
         stage2,
-        ns: stage2 & (s == 0) & flip(seed, 4),
+        ns: stage2 && security == 0 && flip(seed, 4),
     }
 }
 
@@ -27,141 +27,85 @@ pub fn legal_entry(seed: u64) -> Entry {
     let company = legal_company(draw(seed, 0));
     let ids = has_ids(company);
     let wide = flip(seed, 1);
-    let granule = 1 + below(seed, 2, 3) % 3;
+    let granule = 1 + below(seed, 2, 3);
     let leaf = flip(seed, 3);
     let height = if leaf {
         below(seed, 4, 3)
     } else {
-        height_with_span(wide, granule, 1 + below(seed, 4, 4) % 4)
+        height_with_span(wide, granule, 1 + below(seed, 4, 4))
     };
+    let address = legal_address(company, draw(seed, 9));
     Entry {
         processor: small(seed, 5, 8),
         company,
         asid: if ids { number16(seed, 6) } else { 0 },
-        global: ids & leaf & flip(seed, 7),
+        global: ids && leaf && flip(seed, 7),
         wide,
-        granule: (granule % 4) as u8,
+        granule: granule as u8,
         level: level_at(height),
         leaf,
         xs: flip(seed, 8),
-        base: down(
-            legal_address(company, draw(seed, 9)),
-            exponent(wide, granule, height),
-        ),
+        base: down(address, exponent(wide, granule, height)),
     }
 }
 
 // An address in reach of the company: any, the lowest or the highest, in either half where there are two.
 pub fn legal_address(company: Company, seed: u64) -> u64 {
-    let regime = company.regime;
-    let two = (regime_number(regime) < 2) & !company.stage2;
+    let two = has_ids(company);
     let bits = if two { 55 } else { 56 };
-    let kind = below(seed, 0, 6);
     let any = draw(seed, 1);
-    let low = if kind == 0 {
-        0
-    } else if kind == 1 {
-        std::num::wrapping_sub_u64(power(bits), 1)
-    } else if kind == 2 {
-        any % 4294967296
-    } else {
-        any % 36028797018963968
+    let low = match below(seed, 0, 6) {
+        0 => 0,
+        1 => power(bits).wrapping_sub(1),
+        2 => any % (1 << 32),
+        _ => any % (1 << 55),
     };
-    if two & flip(seed, 2) {
-        std::num::wrapping_add_u64(low, 0xFF80_0000_0000_0000)
+    if two && flip(seed, 2) {
+        low.wrapping_add(0xFF80_0000_0000_0000)
     } else {
         low
     }
 }
 
 pub fn broken(entry: Entry, seed: u64) -> Entry {
-    let which = below(seed, 0, 30);
-    let company = entry.company;
+    let whose = draw(seed, 2);
+    let size = draw(seed, 3);
+    let place = draw(seed, 4);
+    let address = draw(seed, 5);
     let height = height_of(entry.level);
-    Entry {
-        processor: if which == 0 {
-            (8 + below(seed, 1, 248) % 248) as u8
-        } else if which == 1 {
-            8
-        } else {
-            entry.processor
-        },
-        company: broken_company(company, which, draw(seed, 2)),
-        asid: if which == 2 {
-            std::num::wrapping_add_u16(entry.asid, 1)
-        } else {
-            entry.asid
-        },
-        global: entry.global != (which == 3),
-        wide: entry.wide != (which == 4),
-        granule: broken_granule(entry.granule, which, draw(seed, 3)),
-        level: level_at(broken_height(height, which, draw(seed, 4))),
-        leaf: entry.leaf != (which == 9),
-        xs: entry.xs,
-        base: broken_base(entry, which, draw(seed, 5)),
+    let k = exponent(entry.wide, entry.granule as u64, height);
+    let mut next = entry;
+    match below(seed, 0, 30) {
+        0 => next.processor = 8 + small(seed, 1, 248),
+        1 => next.processor = 8,
+        2 => next.asid = entry.asid.wrapping_add(1),
+        3 => next.global = !entry.global,
+        4 => next.wide = !entry.wide,
+        5 => next.granule = 0,
+        6 => next.granule = 4,
+        7 => next.level = level_at(5 + below(place, 0, 4)),
+        8 => next.level = level_at(below(place, 0, 5)),
+        9 => next.leaf = !entry.leaf,
+        10 => next.company.regime = regime_at(below(whose, 0, 4)),
+        11 => next.company.security = security_at(below(whose, 0, 4)),
+        12 => next.company.security = security_at(3),
+        13 => next.company.vmid = entry.company.vmid.wrapping_add(1),
+        14 => next.company.stage2 = !entry.company.stage2,
+        15 => next.company.ns = !entry.company.ns,
+        16 => next.granule = small(size, 0, 256),
+        17 => next.level = level_at(height.wrapping_add(1)),
+        18 => next.level = level_at(4),
+        19 => next.base ^= 1,
+        20 => next.base ^= power(k % 64 / 2),
+        21 => next.base ^= power(k.wrapping_sub(1)),
+        22 => next.base ^= 4096,
+        23 => next.base ^= power(55),
+        24 => next.base ^= power(56),
+        25 => next.base ^= power(63),
+        26 => next.base ^= power(55 + below(address, 0, 9)),
+        27 => next.base ^= power(k),
+        28 => next.base = draw(address, 1),
+        _ => {}
     }
-}
-
-fn broken_company(company: Company, which: u64, seed: u64) -> Company {
-    let regime = company.regime;
-    let security = company.security;
-    Company {
-        regime: if which == 10 {
-            regime_at(below(seed, 0, 4))
-        } else {
-            regime
-        },
-        security: if which == 11 {
-            security_at(below(seed, 0, 4))
-        } else if which == 12 {
-            security_at(3)
-        } else {
-            security
-        },
-        vmid: if which == 13 {
-            std::num::wrapping_add_u16(company.vmid, 1)
-        } else {
-            company.vmid
-        },
-        stage2: company.stage2 != (which == 14),
-        ns: company.ns != (which == 15),
-    }
-}
-
-fn broken_granule(granule: u8, which: u64, seed: u64) -> u8 {
-    match which {
-        5 => 0,
-        6 => 4,
-        16 => (below(seed, 0, 256) % 256) as u8,
-        _ => granule,
-    }
-}
-
-// No level's height, or another level's.
-fn broken_height(height: u64, which: u64, seed: u64) -> u64 {
-    match which {
-        7 => 5 + below(seed, 0, 4) % 4,
-        8 => below(seed, 0, 5),
-        17 => std::num::wrapping_add_u64(height, 1),
-        18 => 4,
-        _ => height,
-    }
-}
-
-fn broken_base(entry: Entry, which: u64, seed: u64) -> u64 {
-    let base = entry.base;
-    let k = exponent(entry.wide, entry.granule as u64, height_of(entry.level));
-    match which {
-        19 => base ^ 1,
-        20 => base ^ power(k % 64 / 2),
-        21 => base ^ power(std::num::wrapping_sub_u64(k, 1)),
-        22 => base ^ 4096,
-        23 => base ^ power(55),
-        24 => base ^ power(56),
-        25 => base ^ power(63),
-        26 => base ^ power(55 + below(seed, 0, 9) % 9),
-        27 => base ^ power(k),
-        28 => draw(seed, 1),
-        _ => base,
-    }
+    next
 }

@@ -1,17 +1,22 @@
 // The generator: number k of a seed, and what is taken from it. A number depends on nothing else, so that an input is made again from its place alone.
+// A seed stays a number beside k: `seed.below(0, 16)` would say no more than `below(seed, 0, 16)`.
+
+ghost use Rattle.std.specs.Prelude.{◌≤◌, ◌-◌};
 
 pub fn draw(seed: u64, k: u64) -> u64 {
-    let a = std::num::wrapping_add_u64(seed, (k % 65536 + 1) * 0x9E3779B97F4B);
+    let a = seed.wrapping_add((k % 65536 + 1) * 0x9E3779B97F4B);
     let b = a ^ (a >> 29);
-    let c = std::num::wrapping_add_u64((b % 4294967296) * 0x9E3779B1, b >> 32);
+    let c = ((b % 4294967296) * 0x9E3779B1).wrapping_add(b >> 32);
     let d = c ^ (c << 17);
-    let e = std::num::wrapping_add_u64((d >> 32) % 4294967296 * 0x85EBCA6B, d % 4294967296);
+    let e = ((d >> 32) % 4294967296 * 0x85EBCA6B).wrapping_add(d % 4294967296);
     let f = e ^ (e >> 27);
-    std::num::wrapping_add_u64(f % 4294967296 * 0xC2B2AE35, f >> 31)
+    (f % 4294967296 * 0xC2B2AE35).wrapping_add(f >> 31)
 }
 
 // A number below n, and 0 for an n of 0.
-pub fn below(seed: u64, k: u64, n: u64) -> u64 {
+pub fn below(seed: u64, k: u64, n: u64) -> u64
+    ensures { result ≤ n - 1 }
+{
     if n == 0 { 0 } else { draw(seed, k) / 8 % n }
 }
 
@@ -24,22 +29,20 @@ pub fn once_in(seed: u64, k: u64, n: u64) -> bool {
     below(seed, k, n) == 0
 }
 
-pub fn small(seed: u64, k: u64, n: u64) -> u8 {
+pub fn small(seed: u64, k: u64, n: u64) -> u8
+    ensures { result ≤ n - 1 }
+{
     (below(seed, k, n) % 256) as u8
 }
 
 // 0, 1, 65535 or any: a VMID or an ASID.
 pub fn number16(seed: u64, k: u64) -> u16 {
-    let x = draw(seed, k) / 16 % 65536;
-    let kind = below(seed, std::num::wrapping_add_u64(k, 1000), 8);
-    if kind < 2 {
-        0
-    } else if kind < 5 {
-        (x % 3) as u16
-    } else if kind == 5 {
-        65535
-    } else {
-        x as u16
+    let any = (draw(seed, k) / 16 % 65536) as u16;
+    match below(seed, k.wrapping_add(1000), 8) {
+        0..=1 => 0,
+        2..=4 => any % 3,
+        5 => u16::MAX,
+        _ => any,
     }
 }
 

@@ -2,84 +2,110 @@
 use crate::seeds::{below, draw, flip, number16, once_in, small};
 use crate::turns::turned;
 use machine::{Board, Ds, Features, Flags, Hcr, Hcrx, Present, Scr, State, Traps};
+use std::array;
 
-// What makes a shape: where the processor is, and in which world.
+// The worlds without RME, where `SecureEl2` is Secure with EL2, and those with it.
+#[derive(Clone, Copy, PartialEq, Eq)]
+enum World {
+    Secure,
+    NonSecure,
+    SecureEl2,
+    RmeSecure,
+    RmeNonSecure,
+    RmeRealm,
+    RmeSecureEl2,
+}
+
+impl World {
+    fn has_rme(self) -> bool {
+        matches!(
+            self,
+            World::RmeSecure | World::RmeNonSecure | World::RmeRealm | World::RmeSecureEl2
+        )
+    }
+
+    fn is_ns(self) -> bool {
+        matches!(
+            self,
+            World::NonSecure | World::RmeNonSecure | World::RmeRealm
+        )
+    }
+
+    fn has_secure_el2(self) -> bool {
+        matches!(self, World::SecureEl2 | World::RmeSecureEl2)
+    }
+}
+
+// Whether a host runs: E2H and TGE.
 #[derive(Clone, Copy)]
-struct Shape {
-    el: u8,
-    el2: bool,
-    el3: bool,
-    rme: bool,
-    nse: bool,
-    ns: bool,
-    secure_el2: bool,
+struct Host {
     e2h: bool,
     tge: bool,
 }
 
-fn shaped(el: u8, el2: bool, el3: bool, world: u64, host: u64) -> Shape {
-    Shape {
-        el,
-        el2,
-        el3,
-        rme: world >= 4,
-        nse: world == 6,
-        ns: (world == 1) | (world == 5) | (world == 6),
-        secure_el2: (world == 2) | (world == 7),
-        e2h: (host == 1) | (host == 3),
-        tge: host >= 2,
-    }
-}
+const NONE: Host = Host {
+    e2h: false,
+    tge: false,
+};
 
-// Worlds: 0 Secure without EL2, 1 Non-secure, 2 Secure with EL2; with RME 4 Secure without EL2, 5 Non-secure, 6 Realm, 7 Secure with EL2.
-// Hosts: 0 none, 1 E2H, 2 TGE, 3 both.
-fn shape_at(n: u64) -> Shape {
-    match n {
-        0 => shaped(1, true, false, 0, 0),
-        1 => shaped(1, false, false, 0, 0),
-        2 => shaped(2, true, false, 0, 3),
-        3 => shaped(2, true, true, 1, 0),
-        4 => shaped(3, true, true, 1, 0),
-        5 => shaped(3, true, true, 2, 1),
-        6 => shaped(3, true, true, 0, 3),
-        7 => shaped(1, true, true, 6, 0),
-        8 => shaped(1, true, true, 0, 0),
-        9 => shaped(1, true, true, 2, 0),
-        10 => shaped(3, true, true, 5, 3),
-        11 => shaped(2, true, true, 6, 3),
-        12 => shaped(3, true, true, 6, 1),
-        13 => shaped(1, false, true, 1, 0),
-        14 => shaped(2, true, true, 1, 1),
-        15 => shaped(3, false, true, 0, 3),
-        16 => shaped(2, true, true, 2, 2),
-        17 => shaped(3, true, true, 4, 1),
-        18 => shaped(3, true, true, 7, 3),
-        19 => shaped(3, true, true, 2, 0),
-        20 => shaped(2, true, true, 7, 0),
-        _ => shaped(1, true, true, 5, 0),
-    }
-}
+const E2H: Host = Host {
+    e2h: true,
+    tge: false,
+};
+
+const TGE: Host = Host {
+    e2h: false,
+    tge: true,
+};
+
+const BOTH: Host = Host {
+    e2h: true,
+    tge: true,
+};
+
+// The exception level, whether there are EL2 and EL3, the world and the host.
+const SHAPES: [(u8, bool, bool, World, Host); 22] = [
+    (1, true, false, World::Secure, NONE),
+    (1, false, false, World::Secure, NONE),
+    (2, true, false, World::Secure, BOTH),
+    (2, true, true, World::NonSecure, NONE),
+    (3, true, true, World::NonSecure, NONE),
+    (3, true, true, World::SecureEl2, E2H),
+    (3, true, true, World::Secure, BOTH),
+    (1, true, true, World::RmeRealm, NONE),
+    (1, true, true, World::Secure, NONE),
+    (1, true, true, World::SecureEl2, NONE),
+    (3, true, true, World::RmeNonSecure, BOTH),
+    (2, true, true, World::RmeRealm, BOTH),
+    (3, true, true, World::RmeRealm, E2H),
+    (1, false, true, World::NonSecure, NONE),
+    (2, true, true, World::NonSecure, E2H),
+    (3, false, true, World::Secure, BOTH),
+    (2, true, true, World::SecureEl2, TGE),
+    (3, true, true, World::RmeSecure, E2H),
+    (3, true, true, World::RmeSecureEl2, BOTH),
+    (3, true, true, World::SecureEl2, NONE),
+    (2, true, true, World::RmeSecureEl2, NONE),
+    (1, true, true, World::RmeNonSecure, NONE),
+];
 
 pub fn good_state(seed: u64) -> State {
-    let s = shape_at(below(seed, 0, 22));
+    let (el, el2, el3, world, host) = SHAPES[below(seed, 0, 22) as usize];
     let armed = once_in(seed, 1, 6);
     State {
-        el: s.el,
-        present: Present {
-            el2: s.el2,
-            el3: s.el3,
-        },
-        features: features_of(draw(seed, 2), s.rme, s.secure_el2, armed),
+        el,
+        present: Present { el2, el3 },
+        features: features_of(draw(seed, 2), world, armed),
         scr: Scr {
-            ns: s.ns,
-            nse: s.nse,
-            eel2: s.secure_el2,
-            fgten: armed | flip(seed, 3),
-            hxen: armed | flip(seed, 4),
+            ns: world.is_ns(),
+            nse: world == World::RmeRealm,
+            eel2: world.has_secure_el2(),
+            fgten: armed || flip(seed, 3),
+            hxen: armed || flip(seed, 4),
         },
         hcr: Hcr {
-            e2h: s.e2h,
-            tge: s.tge,
+            e2h: host.e2h,
+            tge: host.tge,
             ttlb: once_in(seed, 5, 24),
             ttlbis: once_in(seed, 6, 16),
             ttlbos: once_in(seed, 7, 16),
@@ -87,7 +113,7 @@ pub fn good_state(seed: u64) -> State {
         },
         hcrx: Hcrx {
             fnxs: once_in(seed, 9, 4),
-            fgtnxs: !armed & flip(seed, 10),
+            fgtnxs: !armed && flip(seed, 10),
         },
         traps: traps_of(draw(seed, 11), armed),
         ds: ds_of(draw(seed, 12)),
@@ -97,17 +123,17 @@ pub fn good_state(seed: u64) -> State {
 }
 
 // Mostly present, so that operations run.
-fn features_of(seed: u64, rme: bool, sel2: bool, armed: bool) -> Features {
+fn features_of(seed: u64, world: World, armed: bool) -> Features {
     Features {
         tlbirange: !once_in(seed, 0, 24),
         tlbios: !once_in(seed, 1, 24),
         d128: !once_in(seed, 2, 8),
         xs: !once_in(seed, 3, 8),
         lpa2: flip(seed, 4),
-        rme,
-        sel2,
-        fgt: armed | flip(seed, 5),
-        hcx: armed | flip(seed, 6),
+        rme: world.has_rme(),
+        sel2: world.has_secure_el2(),
+        fgt: armed || flip(seed, 5),
+        hcx: armed || flip(seed, 6),
     }
 }
 
@@ -123,9 +149,9 @@ fn traps_of(seed: u64, armed: bool) -> Traps {
 
 fn flags_of(seed: u64, all: bool, none: bool) -> Flags {
     Flags {
-        local: all | (!none & flip(seed, 0)),
-        inner: all | (!none & flip(seed, 1)),
-        outer: all | (!none & flip(seed, 2)),
+        local: all || !none && flip(seed, 0),
+        inner: all || !none && flip(seed, 1),
+        outer: all || !none && flip(seed, 2),
     }
 }
 
@@ -140,14 +166,9 @@ fn ds_of(seed: u64) -> Ds {
 
 // Neighbours share an inner domain, and neighbouring inner domains an outer one; above the count the domains are any.
 fn board_of(seed: u64) -> Board {
-    let count = 1 + below(seed, 0, 8) % 8;
-    let inner = 1 + below(seed, 1, 8) % 8;
-    let outer = match below(seed, 2, 4) {
-        0 => inner,
-        1 => 2 * inner,
-        2 => 3 * inner,
-        _ => 4 * inner,
-    };
+    let count = 1 + below(seed, 0, 8);
+    let inner = 1 + below(seed, 1, 8);
+    let outer = (1 + below(seed, 2, 4)) * inner;
     let from = below(seed, 3, 200);
     Board {
         own: small(seed, 4, count),
@@ -158,25 +179,12 @@ fn board_of(seed: u64) -> Board {
 }
 
 fn domains(seed: u64, count: u64, size: u64, from: u64) -> [u8; 8] {
-    [
-        domain(seed, 0, count, size, from),
-        domain(seed, 1, count, size, from),
-        domain(seed, 2, count, size, from),
-        domain(seed, 3, count, size, from),
-        domain(seed, 4, count, size, from),
-        domain(seed, 5, count, size, from),
-        domain(seed, 6, count, size, from),
-        domain(seed, 7, count, size, from),
-    ]
+    array::from_fn(|p| domain(seed, p as u64, count, size, from))
 }
 
 fn domain(seed: u64, p: u64, count: u64, size: u64, from: u64) -> u8 {
     if p < count {
-        if size == 0 {
-            0
-        } else {
-            (std::num::wrapping_add_u64(p / size, from) % 256) as u8
-        }
+        ((p / size.max(1)).wrapping_add(from) % 256) as u8
     } else {
         small(seed, p, 4)
     }
@@ -246,35 +254,25 @@ fn wild_board(seed: u64) -> Board {
 }
 
 fn wild_domains(seed: u64) -> [u8; 8] {
-    [
-        small(seed, 0, 4),
-        small(seed, 1, 4),
-        small(seed, 2, 4),
-        small(seed, 3, 4),
-        small(seed, 4, 4),
-        small(seed, 5, 4),
-        small(seed, 6, 4),
-        small(seed, 7, 4),
-    ]
+    array::from_fn(|p| small(seed, p as u64, 4))
 }
 
 // Half of the states are good, most of the others have one field turned.
 pub fn state_at(seed: u64) -> State {
-    let kind = below(seed, 0, 16);
-    if kind < 8 {
-        good_state(draw(seed, 1))
-    } else if kind < 14 {
-        turned(good_state(draw(seed, 1)), draw(seed, 2))
-    } else {
-        wild_state(draw(seed, 1))
+    let own = draw(seed, 1);
+    match below(seed, 0, 16) {
+        0..=7 => good_state(own),
+        8..=13 => turned(good_state(own), draw(seed, 2)),
+        _ => wild_state(own),
     }
 }
 
 // For calls that have to get past the state: few are turned, none are wild.
 pub fn fair_state(seed: u64) -> State {
+    let good = good_state(draw(seed, 1));
     if once_in(seed, 0, 10) {
-        turned(good_state(draw(seed, 1)), draw(seed, 2))
+        turned(good, draw(seed, 2))
     } else {
-        good_state(draw(seed, 1))
+        good
     }
 }

@@ -2,13 +2,19 @@
 use crate::exponents::exponent;
 use crate::operations::{damaged, given, operation_for, word_of};
 use crate::seeds::{below, down, draw, flip, number16, once_in, power};
-use machine::{Access, Operation, State};
+use machine::{Operation, State};
 
 #[derive(Clone, Copy)]
 pub struct Step {
     pub word: u64,
     pub xt: u64,
     pub xt2: u64,
+}
+
+impl Step {
+    pub(crate) fn words(self) -> [u64; 3] {
+        [self.word, self.xt, self.xt2]
+    }
 }
 
 // The fields of an operand before they are put into words; `field` is the base as the word holds it.
@@ -27,50 +33,31 @@ pub fn unit_exponent(state: State, op: Operation, tg: u64) -> u64 {
     if op.tlbip {
         return 12;
     }
-    let granule = 10 + tg % 4 * 2;
-    let access = access::decide(state, op);
-    match access {
-        Access::Undefined => granule,
-        Access::Trapped(n) => granule,
-        Access::NoEffect => granule,
-        Access::Runs(scope) => {
-            let regime = scope.regime;
-            let wide = processor::is_unit_64k(state, regime, scope.stage2);
-            if wide { 16 } else { granule }
-        }
+    match access::decide(state, op) {
+        Ok(scope) if processor::is_unit_64k(state, scope.regime, scope.stage2) => 16,
+        _ => 10 + tg % 4 * 2,
     }
 }
 
 // Base fields: any; low; at the top; around the top bit; around a single bit.
 pub fn field_for(tlbip: bool, seed: u64) -> u64 {
     let top = if tlbip { power(43) } else { power(36) };
-    let kind = below(seed, 0, 10);
     let near = below(seed, 1, 40);
     let any = draw(seed, 2);
-    if kind < 3 {
-        any
-    } else if kind < 5 {
-        any % 4096
-    } else if kind == 5 {
-        std::num::wrapping_sub_u64(18446744073709551615, near)
-    } else if kind == 6 {
-        std::num::wrapping_add_u64(top, near)
-    } else if kind == 7 {
-        std::num::wrapping_sub_u64(std::num::wrapping_sub_u64(top, near), 1)
-    } else if kind == 8 {
-        power(any % 44)
-    } else {
-        0
+    match below(seed, 0, 10) {
+        0..=2 => any,
+        3..=4 => any % 4096,
+        5 => u64::MAX - near,
+        6 => top.wrapping_add(near),
+        7 => top.wrapping_sub(near).wrapping_sub(1),
+        8 => power(any % 44),
+        _ => 0,
     }
 }
 
 // The field brought to a multiple of 2^k bytes, where its unit is 2^unit bytes.
 pub fn aligned(field: u64, unit: u64, k: u64) -> u64 {
-    if unit < k {
-        down(field, k - unit)
-    } else {
-        field
-    }
+    down(field, k.saturating_sub(unit))
 }
 
 // Half of 2^k bytes off a multiple of it.
@@ -86,52 +73,35 @@ pub fn parts_for(state: State, op: Operation, seed: u64) -> Parts {
     let tg = if once_in(seed, 0, 30) {
         0
     } else {
-        1 + below(seed, 1, 3) % 3
+        1 + below(seed, 1, 3)
     };
-    let ttl = if flip(seed, 2) {
-        0
-    } else {
-        below(seed, 3, 4) % 4
-    };
+    let ttl = if flip(seed, 2) { 0 } else { below(seed, 3, 4) };
     let unit = unit_exponent(state, op, tg);
+    let k = exponent(op.tlbip, tg, 3 - ttl);
     let field = field_for(op.tlbip, draw(seed, 4));
-    let multiple = aligned(
-        field,
-        unit,
-        exponent(op.tlbip, tg, std::num::wrapping_sub_u64(3, ttl)),
-    );
-    let kind = below(seed, 5, 10);
+    let multiple = aligned(field, unit, k);
     Parts {
         top: number16(seed, 6) as u64,
         tg,
-        scale: below(seed, 7, 16) % 16 / 5,
+        scale: below(seed, 7, 16) / 5,
         num: number_for(draw(seed, 8)),
         ttl,
-        field: if (ttl == 0) | (kind == 0) {
-            field
-        } else if kind == 1 {
-            std::num::wrapping_add_u64(multiple, 1)
-        } else if kind == 2 {
-            half_off(
-                multiple,
-                unit,
-                exponent(op.tlbip, tg, std::num::wrapping_sub_u64(3, ttl)),
-            )
-        } else {
-            multiple
+        field: match below(seed, 5, 10) {
+            _ if ttl == 0 => field,
+            0 => field,
+            1 => multiple.wrapping_add(1),
+            2 => half_off(multiple, unit, k),
+            _ => multiple,
         },
     }
 }
 
 // NUM: mostly small, sometimes the largest.
 pub fn number_for(seed: u64) -> u64 {
-    let kind = below(seed, 0, 8);
-    if kind < 5 {
-        below(seed, 1, 3) % 3
-    } else if kind == 5 {
-        31
-    } else {
-        below(seed, 1, 32) % 32
+    match below(seed, 0, 8) {
+        0..=4 => below(seed, 1, 3),
+        5 => 31,
+        _ => below(seed, 1, 32),
     }
 }
 
@@ -142,78 +112,55 @@ pub fn step_of(word: u64, tlbip: bool, parts: Parts, seed: u64) -> Step {
     } else {
         0
     };
-    let low = if tlbip { junk } else { parts.field };
-    let fields = parts.tg % 4 * 128 + parts.scale % 4 * 32 + parts.num % 32;
-    let xt = parts.top % 65536 * 281474976710656
-        + fields * 549755813888
-        + parts.ttl % 4 * 137438953472
-        + low % 137438953472;
-    let xt2 = if tlbip {
-        parts.field % 17592186044416 + junk % 1048576 * 17592186044416
+    let (low, xt2) = if tlbip {
+        (junk, parts.field % (1 << 44) | junk << 44)
     } else {
-        junk
+        (parts.field, junk)
     };
+    let xt = parts.top << 48
+        | parts.tg % 4 << 46
+        | parts.scale % 4 << 44
+        | parts.num % 32 << 39
+        | parts.ttl % 4 << 37
+        | low % (1 << 37);
     Step { word, xt, xt2 }
 }
 
 // Any step: its operation is one for the state, its word now and then damaged.
 pub fn step_for(state: State, seed: u64) -> Step {
     let op = operation_for(state, draw(seed, 0));
-    let parts = parts_for(state, op, draw(seed, 1));
     let word = given(word_of(op), 30, draw(seed, 2));
-    let tlbip = op.tlbip;
     if once_in(seed, 3, 40) {
-        Step {
+        return Step {
             word,
             xt: draw(seed, 4),
             xt2: draw(seed, 5),
-        }
-    } else {
-        step_of(word, tlbip, parts, draw(seed, 6))
+        };
     }
+    let parts = parts_for(state, op, draw(seed, 1));
+    step_of(word, op.tlbip, parts, draw(seed, 6))
 }
 
 // The same step with one thing changed: shorter, hinted, NXS, another ASID, TG, name, shareability, register or form, or damaged.
 pub fn spoiled(step: Step, seed: u64) -> Step {
-    let which = below(seed, 0, 16);
-    let xt = step.xt;
-    let word = step.word;
-    match which {
-        0 => with_xt(step, xt ^ power(39)),
-        1 => with_xt(step, xt ^ power(37)),
-        2 => with_xt(step, xt ^ power(38)),
-        3 => with_word(step, word ^ power(12)),
-        4 => with_xt(step, xt ^ power(48)),
-        5 => with_xt(step, xt ^ power(63)),
-        6 => with_xt(step, xt ^ power(46 + below(seed, 1, 2) % 2)),
-        7 => with_word(step, word ^ power(16 + below(seed, 1, 3) % 3)),
-        8 => with_word(step, word ^ power(8 + below(seed, 1, 3) % 3)),
-        9 => with_word(step, word ^ power(5 + below(seed, 1, 3) % 3)),
-        10 => with_word(step, word ^ power(below(seed, 1, 5))),
-        11 => with_word(step, word ^ power(22)),
-        12 => with_word(step, damaged(word, draw(seed, 2))),
-        13 => with_xt(step, xt ^ power(below(seed, 1, 37))),
-        14 => with_xt(step, xt ^ power(44 + below(seed, 1, 2) % 2)),
-        _ => Step {
-            word,
-            xt,
-            xt2: step.xt2 ^ power(below(seed, 1, 44)),
-        },
+    let mut next = step;
+    match below(seed, 0, 16) {
+        0 => next.xt ^= power(39),
+        1 => next.xt ^= power(37),
+        2 => next.xt ^= power(38),
+        3 => next.word ^= power(12),
+        4 => next.xt ^= power(48),
+        5 => next.xt ^= power(63),
+        6 => next.xt ^= power(46 + below(seed, 1, 2)),
+        7 => next.word ^= power(16 + below(seed, 1, 3)),
+        8 => next.word ^= power(8 + below(seed, 1, 3)),
+        9 => next.word ^= power(5 + below(seed, 1, 3)),
+        10 => next.word ^= power(below(seed, 1, 5)),
+        11 => next.word ^= power(22),
+        12 => next.word = damaged(step.word, draw(seed, 2)),
+        13 => next.xt ^= power(below(seed, 1, 37)),
+        14 => next.xt ^= power(44 + below(seed, 1, 2)),
+        _ => next.xt2 ^= power(below(seed, 1, 44)),
     }
-}
-
-fn with_xt(step: Step, xt: u64) -> Step {
-    Step {
-        word: step.word,
-        xt,
-        xt2: step.xt2,
-    }
-}
-
-fn with_word(step: Step, word: u64) -> Step {
-    Step {
-        word,
-        xt: step.xt,
-        xt2: step.xt2,
-    }
+    next
 }

@@ -7,6 +7,8 @@ use native.Mathlib.Omega.{arith}
 use lib.Dec.{leb}
 use lib.ListN.{get_or}
 use borrow.Author.Tests.{leb-true, leb-false}
+use Rattle.std.specs.Prelude.{⊤, Option, Some, None, Result, Err, IfSome}
+use Rattle.std.specs.Option.{option_or}
 use Rattle.laws.specs.Every.{any}
 use Rattle.laws.specs.Mask.{bit_of}
 use Rattle.laws.specs.Slots.{slots, first, some}
@@ -20,8 +22,8 @@ use Rattle.machine.specs.Judge.{is_outside, Sound, Verdict, leaf_at, level_at}
 use Rattle.machine.specs.State.{bad_state}
 use Rattle.machine.specs.Target.{is_target}
 use Rattle.machine.specs.declared.entry.Entry.{Entry}
-use Rattle.machine.specs.declared.judge.Judged.{Judged}
-use Rattle.machine.specs.declared.judge.Judged.TheVariants.{Accepted, BadShape, BadState, BadTarget, Refused, Outside, Gap}
+use Rattle.machine.specs.declared.judge.Objection.{Objection}
+use Rattle.machine.specs.declared.judge.Objection.TheVariants.{BadShape, BadState, BadTarget, Refused, Outside}
 use Rattle.machine.specs.declared.judge.Target.{Target}
 use Rattle.machine.specs.declared.processor.State.{State}
 use Rattle.machine.specs.declared.work.Work.{Work}
@@ -32,7 +34,7 @@ use Rattle.judge.proofs.Targets.{Fits}
 use Rattle.judge.proofs.Walk.{AtProcessor, AtKind, AtBase, start-processors, skip-processor, enter-processor, skip-kind, enter-kind, leave-kind, leave-processor, finish, jump, gap, asked-span}
 use Rattle.coverage.specs.Asids.{Free, Named}
 use Rattle.coverage.specs.Places.{is_asked, exponent_in, CoversTo}
-use Rattle.judge.specs.Search.{entry_in, Searched, Searches}
+use Rattle.judge.specs.Search.{entry_in, Searched, verdict_by, Searches}
 use Rattle.steps.specs.Steps.{work_in, work_at, step_at, AreSteps, taken_by, used_by}
 
 -- the works of the steps
@@ -68,8 +70,12 @@ unfoldable pub free_asid : List Work → ℕ → ℕ → ℕ → ℕ
 free_asid works n zero a = a
 free_asid works n (suc more) a = cond (used_by works n a) (free_asid works n more (a + 1)) a
 
+abbrev asid_by : Option ℕ → ℕ → ℕ
+asid_by None free = free
+asid_by (Some n) free = n
+
 unfoldable pub named_asid : Target → List Work → ℕ → ℕ
-named_asid t works n = cond t.one t.asid (cond (has_asids t.company) (free_asid works n 17 0) 0)
+named_asid t works n = asid_by t.asid (cond (has_asids t.company) (free_asid works n 17 0) 0)
 
 -- a work drops an entry, and this is the number of the last span that it meets; or none does
 pub data Cover : Type 0 where
@@ -84,53 +90,44 @@ unfoldable pub cover_at : List Work → ℕ → Entry → ℕ → Cover
 cover_at works zero e k = Open
 cover_at works (suc n) e k = cond (goes (work_at works n) e) (To ((work_at works n).last / 2 ^ k)) (cover_at works n e k)
 
--- the first gap among addresses, kinds and processors; Accepted says that there is none
-abbrev or_else : Judged → Judged → Judged
-or_else Accepted r = r
-or_else BadShape r = BadShape
-or_else BadState r = BadState
-or_else BadTarget r = BadTarget
-or_else (Refused k) r = Refused k
-or_else (Outside k) r = Outside k
-or_else (Gap e) r = Gap e
-
-abbrev past : Cover → Entry → (ℕ → Judged) → Judged
+-- the first gap among addresses, kinds and processors, if there is one
+abbrev past : Cover → Entry → (ℕ → Option Entry) → Option Entry
 past (To x) e on = on (x + 1)
-past Open e on = Gap e
+past Open e on = Some e
 
-unfoldable pub gap_base : Target → List Work → ℕ → ℕ → ℕ → ℕ → ℕ → ℕ → Judged
-gap_base t works n a p j zero q = Accepted
+unfoldable pub gap_base : Target → List Work → ℕ → ℕ → ℕ → ℕ → ℕ → ℕ → Option Entry
+gap_base t works n a p j zero q = None
 gap_base t works n a p j (suc more) q =
     cond (leb q (t.last / 2 ^ exponent_in t (level_at j)))
     (past (cover_at works n (entry_in t a p j q) (exponent_in t (level_at j))) (entry_in t a p j q) (λ (x : ℕ). gap_base t works n a p j more x))
-    Accepted
+    None
 
 abbrev numbers : Target → ℕ → ℕ
 numbers t j = (t.last / 2 ^ exponent_in t (level_at j) + 1) - t.first / 2 ^ exponent_in t (level_at j)
 
-abbrev gap_at : Target → List Work → ℕ → ℕ → ℕ → ℕ → Judged
+abbrev gap_at : Target → List Work → ℕ → ℕ → ℕ → ℕ → Option Entry
 gap_at t works n a p j =
-    cond (is_asked t (leaf_at j) (level_at j)) (gap_base t works n a p j (numbers t j) (t.first / 2 ^ exponent_in t (level_at j))) Accepted
+    cond (is_asked t (leaf_at j) (level_at j)) (gap_base t works n a p j (numbers t j) (t.first / 2 ^ exponent_in t (level_at j))) None
 
-unfoldable pub gap_kind : Target → List Work → ℕ → ℕ → ℕ → ℕ → ℕ → Judged
-gap_kind t works n a p zero j = Accepted
-gap_kind t works n a p (suc more) j = or_else (gap_at t works n a p j) (gap_kind t works n a p more (j + 1))
+unfoldable pub gap_kind : Target → List Work → ℕ → ℕ → ℕ → ℕ → ℕ → Option Entry
+gap_kind t works n a p zero j = None
+gap_kind t works n a p (suc more) j = option_or (gap_at t works n a p j) (gap_kind t works n a p more (j + 1))
 
-unfoldable pub gap_processor : Target → List Work → ℕ → ℕ → ℕ → ℕ → Judged
-gap_processor t works n a zero p = Accepted
+unfoldable pub gap_processor : Target → List Work → ℕ → ℕ → ℕ → ℕ → Option Entry
+gap_processor t works n a zero p = None
 gap_processor t works n a (suc more) p =
-    or_else (cond (bit_of t.processors p) (gap_kind t works n a p 7 0) Accepted) (gap_processor t works n a more (p + 1))
+    option_or (cond (bit_of t.processors p) (gap_kind t works n a p 7 0) None) (gap_processor t works n a more (p + 1))
 
-unfoldable pub judged_of : State → Target → List ℕ → Judged
+unfoldable pub judged_of : State → Target → List ℕ → Result ⊤ Objection
 judged_of st t steps =
     cond (is_list steps)
-    (cond (bad_state st) BadState
+    (cond (bad_state st) (Err BadState)
     (cond (is_target st t)
-    (cond (some (refuses st) steps) (Refused (first (refuses st) steps))
-    (cond (some (is_outside st t.company) steps) (Outside (first (is_outside st t.company) steps))
-    (gap_processor t (works_of st steps) (slots steps) (named_asid t (works_of st steps) (slots steps)) 8 0)))
-    BadTarget))
-    BadShape
+    (cond (some (refuses st) steps) (Err (Refused (first (refuses st) steps)))
+    (cond (some (is_outside st t.company) steps) (Err (Outside (first (is_outside st t.company) steps)))
+    (verdict_by (gap_processor t (works_of st steps) (slots steps) (named_asid t (works_of st steps) (slots steps)) 8 0))))
+    (Err BadTarget)))
+    (Err BadShape)
 
 cover-covers : (works : List Work) (n : ℕ) (e : Entry) (k : ℕ) → ((i : ℕ) → i < n → (work_at works i).last < 2 ^ 64) → 12 ≤ k → Covers works n e k (cover_at works n e k)
 unfolding cover_at any
@@ -145,23 +142,13 @@ cover-covers works (suc n) e k fits h =
 
 -- the search goes on where there is no gap, and ends with the first
 module _ (t : Target) (works : List Work) (n a : ℕ) (s : Searches t works n a) (fits : (i : ℕ) → i < n → (work_at works i).last < 2 ^ 64) where
-  abbrev Then : Type 0 → Judged → Type 0
-  Then A Accepted = A
-  Then A BadShape = ⊥
-  Then A BadState = ⊥
-  Then A BadTarget = ⊥
-  Then A (Refused k) = ⊥
-  Then A (Outside k) = ⊥
-  Then A (Gap e) = Searched t works n a (Gap e)
+  abbrev Then : Type 0 → Option Entry → Type 0
+  Then A None = A
+  Then A (Some e) = Searched t works n a (Some e)
 
-  or-else : (A B : Type 0) (x y : Judged) → Then A x → (A → Then B y) → Then B (or_else x y)
-  or-else A B Accepted y h on = on h
-  or-else A B BadShape y h on = h
-  or-else A B BadState y h on = h
-  or-else A B BadTarget y h on = h
-  or-else A B (Refused k) y h on = h
-  or-else A B (Outside k) y h on = h
-  or-else A B (Gap e) y h on = h
+  or-else : (A B : Type 0) (x y : Option Entry) → Then A x → (A → Then B y) → Then B (option_or x y)
+  or-else A B None y h on = on h
+  or-else A B (Some e) y h on = h
 
   by-bases : (more p j q : ℕ) → AtBase t works n a p j (leaf_at j) (level_at j) (exponent_in t (level_at j)) (t.last / 2 ^ exponent_in t (level_at j)) q →
       (t.last / 2 ^ exponent_in t (level_at j) + 1) - q ≤ more → Then (AtKind t works n a p (j + 1)) (gap_base t works n a p j more q)
@@ -180,7 +167,7 @@ module _ (t : Target) (works : List Work) (n a : ℕ) (s : Searches t works n a)
 
       go : (b : Bool) → leb q end ≡ b → (c : Cover) → Covers works n e k c →
           ((x : ℕ) → AtBase t works n a p j (leaf_at j) (level_at j) k end x → (end + 1) - x ≤ more → Then (AtKind t works n a p (j + 1)) (gap_base t works n a p j more x)) →
-          Then (AtKind t works n a p (j + 1)) (cond b (past c e (λ (x : ℕ). gap_base t works n a p j more x)) Accepted)
+          Then (AtKind t works n a p (j + 1)) (cond b (past c e (λ (x : ℕ). gap_base t works n a p j more x)) None)
       go true i (To x) r on =
           let m : q ≤ end = leb-true q end i in
           let (further, next) = jump t works n a p j (leaf_at j) (level_at j) k end q x h e refl r in
@@ -196,36 +183,31 @@ module _ (t : Target) (works : List Work) (n a : ℕ) (s : Searches t works n a)
       (λ (next : AtKind t works n a p (j + 1)). by-kinds more p (j + 1) next (omega arith))
     where
       here : (b : Bool) → is_asked t (leaf_at j) (level_at j) ≡ b →
-          Then (AtKind t works n a p (j + 1)) (cond b (gap_base t works n a p j (numbers t j) (t.first / 2 ^ exponent_in t (level_at j))) Accepted)
+          Then (AtKind t works n a p (j + 1)) (cond b (gap_base t works n a p j (numbers t j) (t.first / 2 ^ exponent_in t (level_at j))) None)
       here true e =
           by-bases (numbers t j) p j (t.first / 2 ^ exponent_in t (level_at j))
           (enter-kind t works n a p j (leaf_at j) (level_at j) (exponent_in t (level_at j)) h (omega arith) refl refl e refl) (omega arith)
       here false e = skip-kind t works n a p j h e
 
-  by-processors : (more p : ℕ) → AtProcessor t works n a p → p + more ≡ 8 → Then (Searched t works n a Accepted) (gap_processor t works n a more p)
+  by-processors : (more p : ℕ) → AtProcessor t works n a p → p + more ≡ 8 → Then (Searched t works n a None) (gap_processor t works n a more p)
   unfolding gap_processor
   by-processors zero p h l = finish t works n a p h (omega arith)
   by-processors (suc more) p h l =
-      or-else (AtProcessor t works n a (p + 1)) (Searched t works n a Accepted) (cond (bit_of t.processors p) (gap_kind t works n a p 7 0) Accepted)
+      or-else (AtProcessor t works n a (p + 1)) (Searched t works n a None) (cond (bit_of t.processors p) (gap_kind t works n a p 7 0) None)
       (gap_processor t works n a more (p + 1))
       (here (bit_of t.processors p) refl)
       (λ (next : AtProcessor t works n a (p + 1)). by-processors more (p + 1) next (omega arith))
     where
-      here : (b : Bool) → bit_of t.processors p ≡ b → Then (AtProcessor t works n a (p + 1)) (cond b (gap_kind t works n a p 7 0) Accepted)
+      here : (b : Bool) → bit_of t.processors p ≡ b → Then (AtProcessor t works n a (p + 1)) (cond b (gap_kind t works n a p 7 0) None)
       here true e = by-kinds 7 p 0 (enter-processor t works n a p h (omega arith) e) refl
       here false e = skip-processor t works n a p h e
 
   searched : Searched t works n a (gap_processor t works n a 8 0)
   searched = ends (gap_processor t works n a 8 0) (by-processors 8 0 (start-processors t works n a) refl)
     where
-      ends : (r : Judged) → Then (Searched t works n a Accepted) r → Searched t works n a r
-      ends Accepted h = h
-      ends BadShape h = h
-      ends BadState h = h
-      ends BadTarget h = h
-      ends (Refused k) h = h
-      ends (Outside k) h = h
-      ends (Gap e) h = h
+      ends : (r : Option Entry) → Then (Searched t works n a None) r → Searched t works n a r
+      ends None h = h
+      ends (Some e) h = h
 
 -- the named ASID
 free-free : (works : List Work) (n more a : ℕ) → Used works n a → n < a + more → Free works n (free_asid works n more a)
@@ -240,16 +222,16 @@ free-free works n (suc more) a h l = go (used_by works n a) refl (free-free work
 
 named-named : (t : Target) (works : List Work) (n : ℕ) → Fits t → n ≤ 16 → Named t works n (named_asid t works n) × (named_asid t works n < 2 ^ 16)
 unfolding named_asid
-named-named t works n f l = go t.one refl (has_asids t.company) refl
+named-named t works n f l = go t.asid refl f.asid (has_asids t.company) refl
   where
     free : Free works n (free_asid works n 17 0)
     free = free-free works n 17 0 (below-start (λ (b : ℕ). used_by works n b ≡ true)) (omega arith)
 
-    go : (b : Bool) → t.one ≡ b → (c : Bool) → has_asids t.company ≡ c →
-        Named t works n (cond b t.asid (cond c (free_asid works n 17 0) 0)) × (cond b t.asid (cond c (free_asid works n 17 0) 0) < 2 ^ 16)
-    go true e c h = (named-own t (Free works n) e, f.asid)
-    go false e true h = (named-free t (Free works n) (free_asid works n 17 0) e h free, omega (arith, used-few works n (free_asid works n 17 0) free.lowest))
-    go false e false h = (named_none t (Free works n) e h, omega arith)
+    go : (o : Option ℕ) → t.asid ≡ o → IfSome o (λ x. x < 2 ^ 16) → (c : Bool) → has_asids t.company ≡ c →
+        Named t works n (asid_by o (cond c (free_asid works n 17 0) 0)) × (asid_by o (cond c (free_asid works n 17 0) 0) < 2 ^ 16)
+    go (Some x) e low c h = (named-own t (Free works n) x e, low)
+    go None e low true h = (named-free t (Free works n) (free_asid works n 17 0) e h free, omega (arith, used-few works n (free_asid works n 17 0) free.lowest))
+    go None e low false h = (named_none t (Free works n) e h, omega arith)
 
 -- it gives the verdict
 pub judged-verdict : (st : State) (t : Target) (steps : List ℕ) → Fits t → Verdict st t steps (judged_of st t steps)
@@ -277,12 +259,12 @@ judged-verdict st t steps f =
         (e : Bool) → some (is_outside st t.company) steps ≡ e →
         Verdict st t steps
         (cond a
-        (cond b BadState
+        (cond b (Err BadState)
         (cond c
-        (cond d (Refused (first (refuses st) steps))
-        (cond e (Outside (first (is_outside st t.company) steps)) (gap_processor t works n asid 8 0)))
-        BadTarget))
-        BadShape)
+        (cond d (Err (Refused (first (refuses st) steps)))
+        (cond e (Err (Outside (first (is_outside st t.company) steps))) (verdict_by (gap_processor t works n asid 8 0))))
+        (Err BadTarget)))
+        (Err BadShape))
     go true ea true eb c ec d ed e ee = (ea, eb)
     go true ea false eb true ec true ed e ee = (record { list = ea; state = eb; target = ec }, ed, refl)
     go true ea false eb true ec false ed true ee = (record { list = ea; state = eb; target = ec }, ed, ee, refl)
@@ -296,5 +278,5 @@ judged-verdict st t steps f =
     go false ea b eb c ec d ed e ee = ea
 
 -- so an answer that is a verdict is what it computes
-pub judged-is : (st : State) (t : Target) (steps : List ℕ) (r : Judged) → st.vmid < 2 ^ 16 → Fits t → Verdict st t steps r → r ≡ judged_of st t steps
+pub judged-is : (st : State) (t : Target) (steps : List ℕ) (r : Result ⊤ Objection) → st.vmid < 2 ^ 16 → Fits t → Verdict st t steps r → r ≡ judged_of st t steps
 judged-is st t steps r low f v = verdict-one st t steps r (judged_of st t steps) low v (judged-verdict st t steps f)

@@ -1,5 +1,5 @@
 -- From the works of the steps to the list, and from the search to the verdict.
-use Prim.Native.Nat.{ℕ, ◌+◌, ◌*◌, ◌/◌, ◌^◌, ◌<◌, ◌≤◌}
+use Prim.Native.Nat.{ℕ, ◌*◌, ◌/◌, ◌^◌, ◌<◌}
 use mathlib.Core.Bool.{Bool, true, false, not, ◌&&◌, ◌||◌}
 use mathlib.Core.List.{List}
 use mathlib.Core.Logic.{◌⊎◌, inl, inr}
@@ -7,9 +7,9 @@ use mathlib.Core.Path.{◌≡◌, refl, sym, ap, subst, ◌∙◌}
 use native.Mathlib.Nat.{div-lt_iff_lt-mul}
 use native.Mathlib.Omega.{arith}
 use lib.Dec.{eqb, ltb, leb}
-use lib.ListN.{get_or}
 use lib.Pow.{pow_pos}
-use borrow.Author.Tests.{eqb-true, leb-true, ltb-true, lt-ltb, eq-eqb, ne_eqb, not-false}
+use borrow.Author.Tests.{eqb-true, leb-true, ltb-true, lt-ltb, eq-eqb, not-false}
+use Rattle.std.specs.Prelude.{Option, Some, None, Result, Ok, Err, is_none}
 use Rattle.laws.proofs.Any.{any_none, none_any, any_some, some-any, any-slots}
 use Rattle.laws.proofs.Slots.{some-none, none-some, first-is}
 use Rattle.laws.proofs.Truth.{and_0, and-1, not_so, clash, or_left}
@@ -19,41 +19,35 @@ use Rattle.machine.proofs.Judging.{is_taken, list_done, alone-table, survive, su
 use Rattle.machine.proofs.Running.{list-shape}
 use Rattle.machine.proofs.Tags.{legal, company-one, company-self}
 use Rattle.machine.proofs.Verdicts.{aiming, kind-there}
-use Rattle.machine.proofs.Works.{fit}
-use Rattle.machine.specs.Answer.{ran_number}
-use Rattle.machine.specs.Entry.{has_asids, span_of}
+use Rattle.machine.specs.Answer.{number_of}
+use Rattle.machine.specs.Entry.{has_asids, is_same_asid, span_of}
 use Rattle.machine.specs.Execute.{is_work, refuses, ran_of, on_work}
-use Rattle.machine.specs.Goes.{goes}
-use Rattle.machine.specs.Judge.{is_outside, holds_asid, is_held, kind_of, leaf_at, level_at, is_before, alone, Aimed, Survives, Survivor, Sound, Verdict}
+use Rattle.machine.specs.Goes.{is_width_of, goes}
+use Rattle.machine.specs.Judge.{is_outside, holds_number, holds_asid, is_held, kind_of, leaf_at, level_at, is_before, alone, Aimed, Survives, Survivor, Sound, Verdict}
 use Rattle.machine.specs.Table.{same_company}
 use Rattle.machine.specs.declared.entry.Company.{Company}
 use Rattle.machine.specs.declared.entry.Entry.{Entry}
-use Rattle.machine.specs.declared.judge.Judged.{Judged}
-use Rattle.machine.specs.declared.judge.Judged.TheVariants.{Accepted, BadShape, BadState, BadTarget, Refused, Outside, Gap}
+use Rattle.machine.specs.declared.judge.Objection.TheVariants.{Refused, Outside}
 use Rattle.machine.specs.declared.judge.Target.{Target}
 use Rattle.machine.specs.declared.processor.State.{State}
-use Rattle.machine.specs.declared.work.Resolved.{Resolved}
-use Rattle.machine.specs.declared.work.Resolved.TheVariants as resolved
+use Rattle.machine.specs.declared.refusal.Refusal.{Refusal}
 use Rattle.machine.specs.declared.work.Work.{Work}
+use Rattle.judge.proofs.Alike.{level-alike}
 use Rattle.judge.proofs.Targets.{Fits, Rules, target_keeps, candidate-aimed, hard, aimed-placed, none-all}
 use Rattle.coverage.specs.Asids.{Named}
 use Rattle.coverage.specs.Places.{exponent_in}
-use Rattle.judge.specs.Search.{entry_in, Candidate, Earlier, First, Searched, Searches}
-use Rattle.steps.specs.Steps.{work_in, work_at, step_at, AreSteps, FirstNone, FirstOther, taken_by, used_by}
+use Rattle.judge.specs.Search.{entry_in, Candidate, Earlier, First, Searched, verdict_by, Searches}
+use Rattle.steps.specs.Steps.{work_in, work_at, step_at, AreSteps, FirstOther, taken_by, used_by}
+use Rattle.steps.proofs.Loops.{Each}
 
 -- where no step is refused, the works are those of the steps
 module _ (st : State) (steps : List ℕ) (works : List Work) (are : AreSteps st steps works) (done : some (refuses st) steps ≡ false) where
-  pub step-works : (i : ℕ) → i < slots steps → step_at st steps i ≡ resolved.Works (work_at works i)
-  step-works i l = go (step_at st steps i) (some-none (refuses st) steps done i l) ∙ ap resolved.Works (sym (are.each i l))
+  pub step-works : (i : ℕ) → i < slots steps → step_at st steps i ≡ Ok (work_at works i)
+  step-works i l = go (step_at st steps i) (some-none (refuses st) steps done i l) ∙ ap Ok (sym (are.each i l))
     where
-      go : (r : Resolved) → not (is_work r) ≡ false → r ≡ resolved.Works (work_in r)
-      go (resolved.Works w) h = refl
-      go resolved.Unknown h = clash refl h
-      go resolved.Undefined h = clash refl h
-      go (resolved.Trapped v) h = clash refl h
-      go resolved.NoEffect h = clash refl h
-      go resolved.NoGranule h = clash refl h
-      go resolved.Unpredictable h = clash refl h
+      go : (r : Result Work Refusal) → not (is_work r) ≡ false → r ≡ Ok (work_in r)
+      go (Ok w) h = refl
+      go (Err r) h = clash refl h
 
   taken-steps : (e : Entry) → taken_by works (slots steps) e ≡ some (is_taken st e) steps
   taken-steps e = any-slots (λ (i : ℕ). goes (work_at works i) e) (is_taken st e) steps (λ (i : ℕ) (l : i < slots steps). ap (on_work (λ w. goes w e)) (sym (step-works i l)))
@@ -65,20 +59,20 @@ module _ (st : State) (steps : List ℕ) (works : List Work) (are : AreSteps st 
   other-steps c i l = ap (on_work (λ w. not (same_company w.company c))) (step-works i l)
 
   -- the first work of another company is the first step outside
-  outside-first : (c : Company) (k : ℕ) → FirstOther c works (slots steps) k → k < slots steps →
+  outside-first : (c : Company) (k : ℕ) → FirstOther c works (slots steps) (Some k) →
       (some (is_outside st c) steps ≡ true) × (k ≡ first (is_outside st c) steps)
-  outside-first c k f l =
+  outside-first c k (l, lower, here) =
       let at : first (is_outside st c) steps ≡ k =
       first-is (is_outside st c) steps k l
-      (λ (i : ℕ) (m : i < k). other-steps c i (omega arith) ∙ ap not (f.lower i m))
-      (other-steps c k l ∙ ap not (f.here l)) in
+      (λ (i : ℕ) (m : i < k). other-steps c i (omega arith) ∙ ap not (lower i m))
+      (other-steps c k l ∙ ap not here) in
       (lt-ltb (first (is_outside st c) steps) (slots steps) (omega (arith, at)), sym at)
 
   -- or there is none
-  pub inside-all : (c : Company) (k : ℕ) → FirstOther c works (slots steps) k → slots steps ≤ k → some (is_outside st c) steps ≡ false
-  inside-all c k f l =
+  pub inside-all : (c : Company) → FirstOther c works (slots steps) None → some (is_outside st c) steps ≡ false
+  inside-all c f =
       sym (any-slots (λ (i : ℕ). not (same_company (work_at works i).company c)) (is_outside st c) steps (λ (i : ℕ) (m : i < slots steps). sym (other-steps c i m)))
-      ∙ none_any (λ (i : ℕ). not (same_company (work_at works i).company c)) (slots steps) (λ (i : ℕ) (m : i < slots steps). ap not (f.lower i (omega arith)))
+      ∙ none_any (λ (i : ℕ). not (same_company (work_at works i).company c)) (slots steps) (λ (i : ℕ) (m : i < slots steps). ap not (f i m))
 
 -- A work that drops the entry with XS 1, not global, with the named ASID, drops every entry that the target asks for at that place.
 worst : (t : Target) (works : List Work) (n a i : ℕ) (d : Entry) → i < n → Named t works n a → Aimed t d → goes (work_at works i) (hard a d) ≡ true →
@@ -91,10 +85,10 @@ worst t works n a i d l m h k =
       owned = g.owned;
       granule = g.granule;
       met = g.met;
-      hinted = g.hinted;
+      hinted = ap (λ (x : Bool). is_none w.level || (is_width_of w d && x)) (level-alike w.level d (hard a d) refl refl) ∙ g.hinted;
       width = g.width;
       leaf = g.leaf;
-      asid = asid w.one refl g.asid;
+      asid = asid w.asid refl g.asid;
       xs = xs w.nxs g.xs;
     })
   where
@@ -110,27 +104,27 @@ worst t works n a i d l m h k =
     plain false true e = clash e refl
     plain false false e = clash e refl
 
-    same : a ≡ w.asid → (o : Bool) → t.one ≡ o → (s : Bool) → has_asids t.company ≡ s → w.one ≡ true → (eqb d.asid w.asid || (d.leaf && d.global)) ≡ true
-    same e true i s j u =
-        ap (λ (x : ℕ). eqb d.asid x || (d.leaf && d.global)) (sym e ∙ m.own i)
-        ∙ ap (λ (b : Bool). not b || eqb d.asid t.asid || (d.leaf && d.global)) (sym i)
+    same : (x : ℕ) → w.asid ≡ Some x → a ≡ x → (o : Option ℕ) → t.asid ≡ o → (s : Bool) → has_asids t.company ≡ s → (eqb d.asid x || (d.leaf && d.global)) ≡ true
+    same x u e (Some y) i s j =
+        ap (λ (z : ℕ). eqb d.asid z || (d.leaf && d.global)) (sym e ∙ m.own y i)
+        ∙ ap (λ (z : Option ℕ). is_same_asid z d || (d.leaf && d.global)) (sym i)
         ∙ (aiming t d h.aimed).asid
-    same e false i true j u =
-        let used : holds_asid a w ≡ true = simp (u, eq-eqb w.asid a (sym e)) in
-        clash used (any_none (λ (x : ℕ). holds_asid a (work_at works x)) n (m.free i j).free _ l)
-    same e false i false j u =
+    same x u e None i true j =
+        let used : holds_asid a w ≡ true = ap (holds_number a) u ∙ eq-eqb x a (sym e) in
+        clash used (any_none (λ (y : ℕ). holds_asid a (work_at works y)) n (m.free i j).free _ l)
+    same x u e None i false j =
         let none : a ≡ 0 = m.none i j in
         let own : has_asids d.company ≡ false = ap has_asids (company-one d.company t.company (aiming t d h.aimed).company) ∙ j in
         let zero : d.asid ≡ 0 = plain-asid (has_asids d.company) own (legal d h.legal).asids in
-        or_left (eqb d.asid w.asid) (d.leaf && d.global) (eq-eqb d.asid w.asid (zero ∙ sym none ∙ e))
+        or_left (eqb d.asid x) (d.leaf && d.global) (eq-eqb d.asid x (zero ∙ sym none ∙ e))
       where
         plain-asid : (b : Bool) → b ≡ false → (b || (eqb d.asid 0 && not d.global)) ≡ true → d.asid ≡ 0
         plain-asid true p q = clash refl p
         plain-asid false p q = eqb-true d.asid 0 (and_0 (eqb d.asid 0) (not d.global) q)
 
-    asid : (b : Bool) → w.one ≡ b → (not b || eqb a w.asid || (d.leaf && false)) ≡ true → (not b || eqb d.asid w.asid || (d.leaf && d.global)) ≡ true
-    asid true u e = same (eqb-true a w.asid (plain (eqb a w.asid) d.leaf e)) t.one refl (has_asids t.company) refl u
-    asid false u e = refl
+    asid : (o : Option ℕ) → w.asid ≡ o → (is_same_asid o (hard a d) || (d.leaf && false)) ≡ true → (is_same_asid o d || (d.leaf && d.global)) ≡ true
+    asid (Some x) u e = same x u (eqb-true a x (plain (eqb a x) d.leaf e)) t.asid refl (has_asids t.company) refl
+    asid None u e = refl
 
 module _
     (st : State)
@@ -175,7 +169,7 @@ module _
       ∙ some-any (λ (i : ℕ). goes (work_at works i) d) (slots steps) s.place s.within
       (worst t works (slots steps) a s.place d s.within named h s.holds)
 
-  accepts : Searched t works (slots steps) a Accepted → Verdict st t steps Accepted
+  accepts : Searched t works (slots steps) a None → Verdict st t steps (Ok tt)
   accepts h = (
     sound,
     does st t steps sound.list sound.state done inside
@@ -230,10 +224,10 @@ module _
     lowest = lowest;
     xs = ap (λ (x : Entry). x.xs) (sym f.entry);
     global = ap (λ (x : Entry). x.global) (sym f.entry);
-    own_asid = λ (o : t.one ≡ true). asid ∙ named.own o;
-    asid_free = λ (o : t.one ≡ false) (h : has_asids t.company ≡ true).
+    own_asid = λ (n : ℕ) (o : t.asid ≡ Some n). asid ∙ named.own n o;
+    asid_free = λ (o : t.asid ≡ None) (h : has_asids t.company ≡ true).
         ap (λ (n : ℕ). some (is_held st n) steps) asid ∙ sym (used-steps st steps works are done a) ∙ (named.free o h).free;
-    lowest_asid = λ (o : t.one ≡ false) (n : ℕ) (l : n < e.asid). lower o n (has_asids t.company) refl (subst (λ (m : ℕ). n < m) asid l);
+    lowest_asid = λ (o : t.asid ≡ None) (n : ℕ) (l : n < e.asid). lower o n (has_asids t.company) refl (subst (λ (m : ℕ). n < m) asid l);
     no_asid = λ (h : has_asids t.company ≡ false). asid ∙ named.none (none-all t keeps h) h;
   }
     where
@@ -245,10 +239,10 @@ module _
           subst (Aimed t) f.entry
           (candidate-aimed t works (slots steps) a f.processor f.kind f.number fits keeps named low f.candidate)
 
-      runs : ran_number (ran_of st steps (alone e)) ≡ 0
+      runs : number_of (ran_of st steps (alone e)) ≡ 0
       runs = list_done st steps (alone e) sound.list sound.state done (alone-table e asked.legal).0
 
-      lower : t.one ≡ false → (n : ℕ) → (b : Bool) → has_asids t.company ≡ b → n < a → some (is_held st n) steps ≡ true
+      lower : t.asid ≡ None → (n : ℕ) → (b : Bool) → has_asids t.company ≡ b → n < a → some (is_held st n) steps ≡ true
       lower o n true h l = sym (used-steps st steps works are done n) ∙ (named.free o h).lowest n l
       lower o n false h l = absurd (let z : a ≡ 0 = named.none o h in omega (arith, z))
 
@@ -262,45 +256,29 @@ module _
           clash (goes-too d k gone) (survived st steps d k.sized k.legal run s))
 
   -- what the search says is the verdict
-  pub decides : (r : Judged) → Searched t works (slots steps) a r → Verdict st t steps r
-  decides Accepted h = accepts h
-  decides BadShape h = absurd h
-  decides BadState h = absurd h
-  decides BadTarget h = absurd h
-  decides (Refused k) h = absurd h
-  decides (Outside k) h = absurd h
-  decides (Gap e) h = (sound, done, inside, survives e h)
+  pub decides : (r : Option Entry) → Searched t works (slots steps) a r → Verdict st t steps (verdict_by r)
+  decides None h = accepts h
+  decides (Some e) h = (sound, done, inside, survives e h)
 
 -- the answers before the search
--- a step that has no work is refused
-refused-steps : (st : State) (steps : List ℕ) (works : List Work) → AreSteps st steps works → (i : ℕ) → i < slots steps →
-    holds_at (refuses st) steps i ≡ eqb (work_at works i).granule 0
-refused-steps st steps works are i l = go (step_at st steps i) refl ∙ ap (λ (w : Work). eqb w.granule 0) (sym (are.each i l))
-  where
-    go : (r : Resolved) → step_at st steps i ≡ r → not (is_work r) ≡ eqb (work_in r).granule 0
-    go (resolved.Works w) e =
-        let some = (fit st (get_or steps (3 * i) 0) (get_or steps (3 * i + 1) 0) (get_or steps (3 * i + 2) 0) w e).granule_some in
-        sym (ne_eqb w.granule 0 (λ z. omega (arith, some)))
-    go resolved.Unknown e = refl
-    go resolved.Undefined e = refl
-    go (resolved.Trapped v) e = refl
-    go resolved.NoEffect e = refl
-    go resolved.NoGranule e = refl
-    go resolved.Unpredictable e = refl
+-- a step that has no work is refused, and one that has is not
+refused-step : (st : State) (steps : List ℕ) (i : ℕ) (r : Refusal) → step_at st steps i ≡ Err r → holds_at (refuses st) steps i ≡ true
+refused-step st steps i r e = ap (λ (x : Result Work Refusal). not (is_work x)) e
 
-pub refused-verdict : (st : State) (t : Target) (steps : List ℕ) (works : List Work) (k : ℕ) → Sound st t steps → AreSteps st steps works →
-    FirstNone works (slots steps) k → k < slots steps → Verdict st t steps (Refused k)
-refused-verdict st t steps works k s are f l =
+done-step : (st : State) (steps : List ℕ) (i : ℕ) (w : Work) → step_at st steps i ≡ Ok w → holds_at (refuses st) steps i ≡ false
+done-step st steps i w e = ap (λ (x : Result Work Refusal). not (is_work x)) e
+
+pub refused-verdict : (st : State) (t : Target) (steps : List ℕ) (works : List Work) (k : ℕ) (r : Refusal) → Sound st t steps → Each st steps works k → k < slots steps →
+    step_at st steps k ≡ Err r → Verdict st t steps (Err (Refused k))
+refused-verdict st t steps works k r s each l e =
     let at : first (refuses st) steps ≡ k =
-    first-is (refuses st) steps k l (λ (i : ℕ) (m : i < k). refused-steps st steps works are i (omega arith) ∙ ne_eqb _ _ (f.lower i m))
-    (refused-steps st steps works are k l ∙ eq-eqb _ _ (f.here l)) in
+    first-is (refuses st) steps k l (λ (i : ℕ) (m : i < k). done-step st steps i (work_at works i) (each i m)) (refused-step st steps k r e) in
     (s, lt-ltb (first (refuses st) steps) (slots steps) (omega (arith, at)), sym at)
 
-pub refused_none : (st : State) (steps : List ℕ) (works : List Work) (k : ℕ) → AreSteps st steps works → FirstNone works (slots steps) k → slots steps ≤ k →
-    some (refuses st) steps ≡ false
-refused_none st steps works k are f l =
-    none-some (refuses st) steps (λ (i : ℕ) (m : i < slots steps). refused-steps st steps works are i m ∙ ne_eqb _ _ (f.lower i (omega arith)))
+pub refused_none : (st : State) (steps : List ℕ) (works : List Work) → Each st steps works (slots steps) → some (refuses st) steps ≡ false
+refused_none st steps works each =
+    none-some (refuses st) steps (λ (i : ℕ) (m : i < slots steps). done-step st steps i (work_at works i) (each i m))
 
 pub outside-verdict : (st : State) (t : Target) (steps : List ℕ) (works : List Work) (k : ℕ) → Sound st t steps → AreSteps st steps works → some (refuses st) steps ≡ false →
-    FirstOther t.company works (slots steps) k → k < slots steps → Verdict st t steps (Outside k)
-outside-verdict st t steps works k s are done f l = let (some, at) = outside-first st steps works are done t.company k f l in (s, done, some, at)
+    FirstOther t.company works (slots steps) (Some k) → Verdict st t steps (Err (Outside k))
+outside-verdict st t steps works k s are done f = let (some, at) = outside-first st steps works are done t.company k f in (s, done, some, at)

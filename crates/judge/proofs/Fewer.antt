@@ -6,6 +6,7 @@ use mathlib.Core.Logic.{inl, inr}
 use mathlib.Core.Path.{◌≡◌, refl, sym, ap, ap₂, ◌∙◌}
 use native.Mathlib.Decide.{ℕ_discrete}
 use native.Mathlib.Omega.{arith}
+use Rattle.std.specs.Prelude.{Option, Some, None}
 use Rattle.laws.proofs.Any.{any_same}
 use Rattle.laws.proofs.Every.{at}
 use Rattle.laws.proofs.Mask.{mask-bit}
@@ -15,12 +16,11 @@ use Rattle.laws.specs.Mask.{bit_of}
 use Rattle.machine.specs.Goes.{goes}
 use Rattle.machine.specs.Judge.{leaf_at, level_at}
 use Rattle.machine.specs.declared.entry.Entry.{Entry}
-use Rattle.machine.specs.declared.judge.Judged.{Judged}
-use Rattle.machine.specs.declared.judge.Judged.TheVariants.{Accepted, BadShape, BadState, BadTarget, Refused, Outside, Gap}
 use Rattle.machine.specs.declared.judge.Target.{Target}
 use Rattle.machine.specs.declared.work.Work.{Work}
 use Rattle.coverage.specs.Places.{is_asked, exponent_in, placed}
 use Rattle.coverage.specs.Processors.{is_shared, is_searched, searched_of}
+use Rattle.judge.proofs.Alike.{level-alike, asid-alike}
 use Rattle.judge.specs.Search.{entry_in, Candidate, Earlier, First, Searched, Searches, on_processors}
 use Rattle.steps.specs.Steps.{work_at, taken_by}
 
@@ -102,7 +102,10 @@ module _
   goes-alike : (w : Work) (p q : ℕ) (leaf : Bool) (l : _) (base : ℕ) → bit_of w.reached q ≡ bit_of w.reached p →
       goes w (placed t asid q leaf l base) ≡ goes w (placed t asid p leaf l base)
   unfolding goes
-  goes-alike w p q leaf l base e = rw e refl
+  goes-alike w p q leaf l base e =
+      let a = placed t asid q leaf l base in
+      let b = placed t asid p leaf l base in
+      rw (level-alike w.level a b refl refl, asid-alike w.asid a b refl, e) refl
 
   taken-alike : (p q j y : ℕ) → ((i : ℕ) → i < n → bit_of (work_at works i).reached q ≡ bit_of (work_at works i).reached p) →
       taken_by works n (entry_in t asid q j y) ≡ taken_by works n (entry_in t asid p j y)
@@ -157,7 +160,7 @@ module _
   also x i y c s h =
       sym (taken-alike x s.place i y s.alike) ∙ ap (taken_by works n) (sym (same-entry s.place i y)) ∙ h
 
-  accepted : Searched fewer works n asid Accepted → Searched t works n asid Accepted
+  accepted : Searched fewer works n asid None → Searched t works n asid None
   accepted h x i y c =
       let s = stands x c.processor c.named in also x i y c s (h s.place i y (standing x i y c s))
 
@@ -186,11 +189,6 @@ module _
           also x i y c s (f.passed s.place i y (standing x i y c s) (earlier x i y s.place s.most r))
 
   -- what the search says there holds on all processors of the target
-  pub fewer-searched : (r : Judged) → Searched (on_processors t (searched_of t.processors common)) works n asid r → Searched t works n asid r
-  fewer-searched Accepted h = accepted h
-  fewer-searched BadShape h = h
-  fewer-searched BadState h = h
-  fewer-searched BadTarget h = h
-  fewer-searched (Refused k) h = h
-  fewer-searched (Outside k) h = h
-  fewer-searched (Gap e) h = gap e h
+  pub fewer-searched : (r : Option Entry) → Searched (on_processors t (searched_of t.processors common)) works n asid r → Searched t works n asid r
+  fewer-searched None h = accepted h
+  fewer-searched (Some e) h = gap e h

@@ -8,6 +8,7 @@ use native.Mathlib.Omega.{arith}
 use lib.Dec.{eqb, leb}
 use lib.Pow.{pow_pos}
 use borrow.Author.Tests.{eqb-true, leb-true, eq-eqb}
+use Rattle.std.specs.Prelude.{Option, Some, None, IfSome, is_none}
 use Rattle.laws.proofs.Aligned.{whole}
 use Rattle.laws.proofs.Truth.{and_0, and-1, clash, or_left, cond-self}
 use Rattle.laws.specs.Bits.{bits}
@@ -15,7 +16,7 @@ use Rattle.machine.proofs.Halves.{reach-between}
 use Rattle.machine.proofs.Spans.{span-most, span-level, meets-number, number-meets}
 use Rattle.machine.proofs.Tags.{legal, legal-holds, company-one, company-self, entry-same}
 use Rattle.machine.proofs.Verdicts.{aiming, aiming-holds, aimed-width, kind-back, kind-there}
-use Rattle.machine.specs.Entry.{is_company, has_asids, in_reach, span_of}
+use Rattle.machine.specs.Entry.{is_company, has_asids, in_reach, is_same_asid, span_of}
 use Rattle.machine.specs.Judge.{kind_of, Aimed, leaf_at, level_at}
 use Rattle.machine.specs.Operand.{is_granule}
 use Rattle.machine.specs.Span.{exponent_of, has_span, meets_range}
@@ -31,7 +32,7 @@ use Rattle.judge.specs.Search.{entry_in, Candidate}
 -- the numbers of a target are of the sizes of its fields
 pub record Fits (t : Target) : Type 0 where
   pub vmid : t.company.vmid < 2 ^ 16
-  pub asid : t.asid < 2 ^ 16
+  pub asid : IfSome t.asid (λ n. n < 2 ^ 16)
   pub first : t.first < 2 ^ 64
   pub last : t.last < 2 ^ 64
 
@@ -39,7 +40,7 @@ pub record Fits (t : Target) : Type 0 where
 pub record Rules (t : Target) : Type 0 where
   pub company : is_company t.company ≡ true
   pub granule : is_granule t.granule ≡ true
-  pub one : (not t.one || has_asids t.company) ≡ true
+  pub one : (is_none t.asid || has_asids t.company) ≡ true
   pub ordered : t.first ≤ t.last
   pub first : in_reach t.company t.first ≡ true
   pub last : in_reach t.company t.last ≡ true
@@ -50,7 +51,7 @@ unfolding is_target are_addresses
 target_keeps st t h =
     let a1 = is_company t.company in
     let a2 = is_granule t.granule in
-    let a3 = not t.one || has_asids t.company in
+    let a3 = is_none t.asid || has_asids t.company in
     let a4 = are_processors st t.processors in
     let a5 = are_addresses t.company t.first t.last in
     let b1 = leb t.first t.last in
@@ -79,19 +80,19 @@ reach_here t k q f g most low high =
     reach-between t.company k q t.first t.last most low ((le-div_iff_mul-le (pow_pos k)).0 high) f.first f.last g.first g.last g.half
 
 -- a target without ASIDs asks for all
-pub none-all : (t : Target) → Rules t → has_asids t.company ≡ false → t.one ≡ false
-none-all t g e = go t.one refl (ap (λ (b : Bool). not t.one || b) (sym e) ∙ g.one)
+pub none-all : (t : Target) → Rules t → has_asids t.company ≡ false → t.asid ≡ None
+none-all t g e = go t.asid refl (ap (λ (b : Bool). is_none t.asid || b) (sym e) ∙ g.one)
   where
-    go : (b : Bool) → t.one ≡ b → (not b || false) ≡ true → t.one ≡ false
-    go true i h = clash h refl
-    go false i h = i
+    go : (o : Option ℕ) → t.asid ≡ o → (is_none o || false) ≡ true → t.asid ≡ None
+    go (Some n) i h = clash h refl
+    go None i h = i
 
-asid-own : (t : Target) (works : List Work) (n a : ℕ) → Named t works n a → (not t.one || eqb a t.asid) ≡ true
-asid-own t works n a m = go t.one refl
+asid-own : (t : Target) (works : List Work) (n : ℕ) (e : Entry) → Named t works n e.asid → is_same_asid t.asid e ≡ true
+asid-own t works n e m = go t.asid refl
   where
-    go : (b : Bool) → t.one ≡ b → (not b || eqb a t.asid) ≡ true
-    go true e = eq-eqb a t.asid (m.own e)
-    go false e = refl
+    go : (o : Option ℕ) → t.asid ≡ o → is_same_asid o e ≡ true
+    go (Some x) i = eq-eqb e.asid x (m.own x i)
+    go None i = refl
 
 asid-legal : (t : Target) (works : List Work) (n a : ℕ) → Rules t → Named t works n a → (has_asids t.company || (eqb a 0 && not false)) ≡ true
 asid-legal t works n a g m = go (has_asids t.company) refl
@@ -134,7 +135,7 @@ candidate-aimed t works n a p j q f g m low c =
             width = cond-self t.wide;
             granule = eq-eqb t.granule t.granule refl;
             kind = and_0 b1 b2 c.asked;
-            asid = or_left (not t.one || eqb a t.asid) (leaf_at j && false) (asid-own t works n a m);
+            asid = or_left (is_same_asid t.asid (entry_in t a p j q)) (leaf_at j && false) (asid-own t works n (entry_in t a p j q) m);
             within = meets-number k q t.first t.last c.low c.high;
           });
     }

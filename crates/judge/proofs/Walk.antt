@@ -1,6 +1,6 @@
 -- The search: what is known in each of its loops, and what each turn of them adds.
 use Prim.Native.Nat.{ℕ, ◌+◌, ◌*◌, ◌/◌, ◌%◌, ◌^◌, ◌<◌, ◌≤◌}
-use mathlib.Core.Bool.{Bool, true, false, not, ◌||◌}
+use mathlib.Core.Bool.{Bool, true, false, not, ◌&&◌, ◌||◌}
 use mathlib.Core.List.{List}
 use mathlib.Core.Logic.{inl, inr}
 use mathlib.Core.Path.{◌≡◌, refl, sym, ap, subst, ◌∙◌}
@@ -13,21 +13,22 @@ use lib.Pow.{pow_pos}
 use mir.Syntax.{w8}
 use mir.Val.{to_z, of_z}
 use borrow.Author.Tests.{ltb-true, ltb-false, leb-true}
+use Rattle.std.specs.Prelude.{Some, None, is_none}
 use Rattle.laws.proofs.Any.{any-start, any-more, some-any}
 use Rattle.laws.proofs.Truth.{and_0, and-1, clash}
 use Rattle.laws.specs.Mask.{bit_of}
 use Rattle.machine.proofs.Going.{going, going-holds}
 use Rattle.machine.proofs.Spans.{by_level, span-most, span-granule, span-tg, meets-number, number-meets}
 use Rattle.machine.specs.Entry.{span_of, is_legal}
-use Rattle.machine.specs.Goes.{goes, is_met, is_owned}
+use Rattle.machine.specs.Goes.{goes, is_met, is_owned, is_width_of}
 use Rattle.machine.specs.Judge.{leaf_at, level_at}
 use Rattle.machine.specs.Span.{is_level, has_span}
 use Rattle.machine.specs.declared.entry.Entry.{Entry}
-use Rattle.machine.specs.declared.judge.Judged.TheVariants.{Accepted, Gap}
 use Rattle.machine.specs.declared.judge.Target.{Target}
 use Rattle.machine.specs.declared.work.Work.{Work}
 use Rattle.coverage.proofs.Covering.{number-most}
 use Rattle.coverage.specs.Places.{is_asked, exponent_in, placed, CoversTo}
+use Rattle.judge.proofs.Alike.{level-alike, asid-alike}
 use Rattle.judge.specs.Search.{entry_in, Candidate, Earlier, Searched, Searches}
 use Rattle.steps.specs.Steps.{work_at, taken_by}
 
@@ -35,17 +36,19 @@ use Rattle.steps.specs.Steps.{work_at, taken_by}
 goes-base : (w : Work) (t : Target) (asid p : ℕ) (leaf : Bool) (l : ℤ) (a b : ℕ) → goes w (placed t asid p leaf l a) ≡ true →
     is_met w (placed t asid p leaf l b) ≡ true → goes w (placed t asid p leaf l b) ≡ true
 goes-base w t asid p leaf l a b h m =
-    let g = going w (placed t asid p leaf l a) h in
-    going-holds w (placed t asid p leaf l b)
+    let here = placed t asid p leaf l a in
+    let there = placed t asid p leaf l b in
+    let g = going w here h in
+    going-holds w there
     (record {
       reached = g.reached;
       owned = g.owned;
       granule = g.granule;
       met = m;
-      hinted = g.hinted;
+      hinted = ap (λ (x : Bool). is_none w.level || (is_width_of w there && x)) (level-alike w.level there here refl refl) ∙ g.hinted;
       width = g.width;
       leaf = g.leaf;
-      asid = g.asid;
+      asid = ap (λ (x : Bool). x || (leaf && false)) (asid-alike w.asid there here refl) ∙ g.asid;
       xs = g.xs;
     })
 
@@ -175,7 +178,7 @@ module _ (t : Target) (works : List Work) (n asid : ℕ) where
           subst (λ (m : ℕ). Gone m i y) (sym e) (h.passed i y (omega (arith, c.kind)) (subst (λ (m : ℕ). Candidate t m i y) e c))
       go x i y l c (no d) = h.outer.passed x i y (omega arith) c
 
-  pub finish : (p : ℕ) → AtProcessor p → 8 ≤ p → Searched t works n asid Accepted
+  pub finish : (p : ℕ) → AtProcessor p → 8 ≤ p → Searched t works n asid None
   finish p h past = λ (x i y : ℕ) (c : Candidate t x i y). h.passed x i y (omega (arith, c.processor)) c
 
   -- the place that the loops have come to
@@ -305,7 +308,7 @@ module _ (t : Target) (works : List Work) (n asid : ℕ) where
 
   -- and where no work drops the entry, it is the first that survives
   pub gap : (p j : ℕ) (leaf : Bool) (level : ℤ) (k end q : ℕ) → AtBase p j leaf level k end q → q ≤ end → (e : Entry) → e ≡ entry_in t asid p j q →
-      taken_by works n e ≡ false → Searched t works n asid (Gap e)
+      taken_by works n e ≡ false → Searched t works n asid (Some e)
   gap p j leaf level k end q h m e i none = record {
     processor = p;
     kind = j;
@@ -325,7 +328,10 @@ module _ (t : Target) (works : List Work) (n asid : ℕ) where
           (subst (λ (z : ℕ). Gone p z y) (sym kind)
           (h.passed y less (subst (λ (z : ℕ). Candidate t p z y) kind (subst (λ (z : ℕ). Candidate t z i y) same c))))
 
-  pub gap-after : (p j : ℕ) (leaf : Bool) (level : ℤ) (k end q i : ℕ) (e : Entry) → AtStep p j leaf level k end q i e → n ≤ i → Searched t works n asid (Gap e)
+  pub gap-after : (p j : ℕ) (leaf : Bool) (level : ℤ) (k end q i : ℕ) (e : Entry) → AtStep p j leaf level k end q i e → n ≤ i → Searched t works n asid (Some e)
   gap-after p j leaf level k end q i e h l =
       let all : i ≡ n = omega (arith, h.steps, l) in
       gap p j leaf level k end q h.outer h.within e h.entry (ap (λ (m : ℕ). taken_by works m e) (sym all) ∙ h.stays)
+
+-- what the loops of the search ask
+pub ruleset walking = (asked-most, base-most, next-step)

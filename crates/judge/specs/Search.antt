@@ -1,13 +1,13 @@
 -- What the search says: the places that a target asks for, one after the other, and the first with an entry that no step drops.
-use Rattle.std.specs.Prelude.{ℕ, ◌*◌, ◌/◌, ◌^◌, ◌<◌, ◌≤◌, true, false, List, ◌⊎◌, ◌≡◌}
+use Rattle.std.specs.Prelude.{ℕ, ◌*◌, ◌/◌, ◌^◌, ◌<◌, ◌≤◌, true, false, List, ◌⊎◌, ◌≡◌, ⊤, Option, Some, None, Result, Ok, Err}
 use Rattle.coverage.specs.Places.{is_asked, exponent_in, placed}
 use Rattle.laws.specs.Mask.{bit_of}
 use Rattle.machine.specs.Entry.{is_legal}
 use Rattle.machine.specs.Judge.{leaf_at, level_at}
 use Rattle.machine.specs.Table.{same_company}
 use Rattle.machine.specs.declared.entry.Entry.{Entry}
-use Rattle.machine.specs.declared.judge.Judged.{Judged}
-use Rattle.machine.specs.declared.judge.Judged.TheVariants as judged
+use Rattle.machine.specs.declared.judge.Objection.{Objection}
+use Rattle.machine.specs.declared.judge.Objection.TheVariants.{Gap}
 use Rattle.machine.specs.declared.judge.Target.{Target}
 use Rattle.machine.specs.declared.work.Work.{Work}
 use Rattle.steps.specs.Steps.{work_at, taken_by}
@@ -40,14 +40,14 @@ pub record First (t : Target) (works : List Work) (n asid : ℕ) (e : Entry) : T
   pub passed : (x i y : ℕ) → Candidate t x i y → Earlier x i y processor kind number → taken_by works n (entry_in t asid x i y) ≡ true
 
 -- what the search says
-abbrev pub Searched : Target → List Work → ℕ → ℕ → Judged → Type 0
-Searched t works n asid judged.Accepted = (x i y : ℕ) → Candidate t x i y → taken_by works n (entry_in t asid x i y) ≡ true
-Searched t works n asid judged.BadShape = ⊥
-Searched t works n asid judged.BadState = ⊥
-Searched t works n asid judged.BadTarget = ⊥
-Searched t works n asid (judged.Refused k) = ⊥
-Searched t works n asid (judged.Outside k) = ⊥
-Searched t works n asid (judged.Gap e) = First t works n asid e
+abbrev pub Searched : Target → List Work → ℕ → ℕ → Option Entry → Type 0
+Searched t works n asid None = (x i y : ℕ) → Candidate t x i y → taken_by works n (entry_in t asid x i y) ≡ true
+Searched t works n asid (Some e) = First t works n asid e
+
+-- and what judge answers by it
+abbrev pub verdict_by : Option Entry → Result ⊤ Objection
+verdict_by None = Ok tt
+verdict_by (Some e) = Err (Gap e)
 
 -- what the search may count on: each step is of the target's company, and every candidate's entry is legal
 pub record Searches (t : Target) (works : List Work) (n asid : ℕ) : Type 0 where
@@ -59,14 +59,4 @@ pub record Searches (t : Target) (works : List Work) (n asid : ℕ) : Type 0 whe
 
 -- the target on other processors
 abbrev pub on_processors : Target → ℕ → Target
-on_processors t processors = record {
-  company = t.company;
-  wide = t.wide;
-  granule = t.granule;
-  one = t.one;
-  asid = t.asid;
-  leaves = t.leaves;
-  processors = processors;
-  first = t.first;
-  last = t.last;
-}
+on_processors t processors = record t { processors = processors }

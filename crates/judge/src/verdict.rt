@@ -1,83 +1,84 @@
 // Judge: the checks in their order, and the search.
 ghost use Rattle.std.specs.Prelude.{◌≡◌};
 ghost use Rattle.machine.specs.Judge.{Sound, Verdict};
-ghost use Rattle.judge.specs.Search.{on_processors};
+ghost use Rattle.machine.specs.Word.{read_of};
 
 use crate::search::search;
 use coverage::{named_asid, searched_of};
-use machine::{Judged, State, Target};
+use machine::{Objection, Operation, State, Target};
 use processor::is_bad;
-use steps::{no_work, unchecked, with_step, work_in};
+use steps::{no_work, unchecked, with_step};
 use tables::is_list;
 use targets::is_target;
 use words::OperationWord;
 use works::{held_in, resolve};
 
-pub fn judge(state: State, target: Target, list: &[u64]) -> Judged
+pub fn judge(state: State, target: Target, list: &[u64]) -> Result<(), Objection>
     ensures verdict { Verdict state target list.now result }
     ensures list_kept { list.exit.now ≡ list.entry.now }
 {
     if !is_list(list.len()) {
-        return Judged::BadShape;
+        return Err(Objection::BadShape);
     }
     if is_bad(state) {
-        return Judged::BadState;
+        return Err(Objection::BadState);
     }
     if !is_target(state, target) {
-        return Judged::BadTarget;
+        return Err(Objection::BadTarget);
     }
     by_steps(state, target, list)
 }
 
-// What judge answers where shape, state and target are sound. The works stay where they are made: each function that is given them copies
-// all sixteen. A step with the word of the step before it is in the same scope.
-fn by_steps(state: State, target: Target, list: &[u64]) -> Judged
+// What judge answers where shape, state and target are sound.
+fn by_steps(state: State, target: Target, list: &[u64]) -> Result<(), Objection>
     requires { Sound state target list.now }
     ensures { Verdict state target list.now result }
 {
-    let n = list.len() / 3;
-    let company = target.company;
-    let blank = no_work();
-    let mut works = [blank; 16];
-    let mut checked = unchecked(n);
+    let (steps, _) = list.as_chunks::<3>();
+    // No heap: an array has a value in every place, also where no step is yet.
+    let mut works = [no_work(); 16];
+    let mut checked = unchecked();
+    // Word 0 is no operation.
     let mut word = 0;
-    let mut work = blank;
-    for i in 0..n {
-        let next = list[3 * i];
-        let read = OperationWord { bits: next }.read();
-        let held = held_in(next == word, work);
-        word = next;
-        let resolved = resolve(state, read, held, list[3 * i + 1], list[3 * i + 2]);
-        work = work_in(resolved);
+    let mut read = None;
+    for (i, step) in steps.iter().enumerate() {
+        // A step with the word of the step before it is the same operation, in the same scope.
+        read = read_after(word, read, step[0]);
+        word = step[0];
+        let held = if 0 < i {
+            held_in(step[0] == steps[i - 1][0], works[i - 1])
+        } else {
+            None
+        };
+        let Ok(work) = resolve(&state, read, held, step[1], step[2]) else {
+            return Err(Objection::Refused(i));
+        };
         works[i] = work;
-        checked = with_step(checked, company, n, i, work);
+        checked = with_step(checked, target.company, i, work);
     }
-    if checked.refused < n {
-        return Judged::Refused(checked.refused);
-    }
-    if checked.outside < n {
-        return Judged::Outside(checked.outside);
+    if let Some(i) = checked.outside {
+        return Err(Objection::Outside(i));
     }
     let asid = named_asid(checked.used, target);
     let processors = searched_of(target.processors, checked.common);
-    let fewer = on_processors(target, processors);
-    search(works, n, fewer, asid)
+    let fewer = Target {
+        processors,
+        ..target
+    };
+    match search(&works[..steps.len()], fewer, asid) {
+        Some(entry) => Err(Objection::Gap(entry)),
+        None => Ok(()),
+    }
 }
 
-// The target on other processors.
-fn on_processors(target: Target, processors: u64) -> Target
-    ensures { result ≡ on_processors target processors }
+// The next word read, where a word stood before it: a list often has one word in many steps.
+fn read_after(word: u64, read: Option<Operation>, next: u64) -> Option<Operation>
+    requires { read ≡ read_of word }
+    ensures { result ≡ read_of next }
 {
-    let company = target.company;
-    Target {
-        company,
-        wide: target.wide,
-        granule: target.granule,
-        one: target.one,
-        asid: target.asid,
-        leaves: target.leaves,
-        processors,
-        first: target.first,
-        last: target.last,
+    if next == word {
+        read
+    } else {
+        OperationWord { bits: next }.read()
     }
 }

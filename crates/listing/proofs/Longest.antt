@@ -1,5 +1,6 @@
 -- No line is longer than 52 bytes, so that a buffer of 52 always has room for the next word.
 use Rattle.std.proofs.Common.{◌≡◌, ℕ, ◌+◌, ◌-◌, ◌%◌, ◌^◌, ◌<◌, ◌≤◌, Bool, true, false, cond, eqb, List, [], ◌∷◌, ◌++◌, length, refl, arith, lit≤, length-append}
+use Rattle.std.specs.Prelude.{Option, Some, None}
 use native.Mathlib.Decide.{dec_le}
 use Rattle.machine.specs.declared.operation.Name.{Name}
 use Rattle.machine.specs.declared.operation.Name.TheVariants.{
@@ -17,8 +18,6 @@ use Rattle.machine.specs.declared.operation.Name.TheVariants.{
 use Rattle.machine.specs.declared.operation.Share.{Share}
 use Rattle.machine.specs.declared.operation.Share.TheVariants.{Local, Inner, Outer}
 use Rattle.machine.specs.declared.operation.Operation.{Operation}
-use Rattle.machine.specs.declared.operation.Decoded.{Decoded}
-use Rattle.machine.specs.declared.operation.Decoded.TheVariants.{Known, Unknown}
 use Rattle.machine.specs.Text.{bytes, decimal_of}
 use Rattle.machine.specs.Word.{read_of}
 use Rattle.machine.specs.Listing.{name_text, share_text, nxs_text, kind_text, register_text, second_text, line_of, is_listed, shown_as, line_at, word_from, room_for, written_of}
@@ -89,9 +88,9 @@ pub shown-most : (at w : ℕ) → length (line_at at w) ≤ 52
 unfolding line_at
 shown-most at w = go (read_of w) refl
   where
-    go : (d : Decoded) → read_of w ≡ d → length (shown_as at d) ≤ 52
-    go Unknown e = lit≤ tt
-    go (Known op) e = pick (is_listed op)
+    go : (d : Option Operation) → read_of w ≡ d → length (shown_as at d) ≤ 52
+    go None e = lit≤ tt
+    go (Some op) e = pick (is_listed op)
       where
         pick : (b : Bool) → length (cond b (line_of (at % 2 ^ 64) op) []) ≤ 52
         pick true = line-most (at % 2 ^ 64) op (read-rt w op e)

@@ -1,8 +1,10 @@
 -- The walk over a piece of code: what is done of it and what is left make the whole, at every word.
-use Rattle.std.proofs.Common.{◌≡◌, ℕ, suc, ◌+◌, ◌-◌, ◌<◌, ◌≤◌, List, [], ◌∷◌, ◌++◌, length, get_or, take, drop, sym, refl, ap, ◌∙◌, append_assoc, append-nil, add-zero, zero-add, add-one, arith, length-drop, take-append-drop, length-take-le, drop-cons, drop-drop, le-leb}
+use Rattle.std.proofs.Common.{◌≡◌, ℕ, zero, suc, ◌+◌, ◌-◌, ◌*◌, ◌/◌, ◌<◌, ◌≤◌, List, [], ◌∷◌, ◌++◌, length, get_or, take, drop, sym, refl, ap, ◌∙◌, append_assoc, append-nil, add-zero, zero-add, add-one, arith, length-drop, take-append-drop, length-take-le, drop-cons, drop-drop, le-leb}
 use native.Mathlib.Nat.{sub-zero}
 use native.Mathlib.Numerals.{add-two, add-three, add-four}
 use borrow.Author.Tests.{lt-leb}
+use Rattle.std.specs.Int.{w32, from_le_bytes}
+use Rattle.std.specs.Simd.{first_chunks}
 use Rattle.machine.specs.Listing.{line_at, word_from, lines_of, room_for, written_of}
 use Rattle.text.specs.Put.{Put}
 use Rattle.text.proofs.Put.{put-length, put_front, put_rest}
@@ -17,6 +19,26 @@ four code i h =
     let h2 : suc (suc i) < length code = omega arith in
     let h3 : suc (suc (suc i)) < length code = omega arith in
     rw (add-one i, add-two i, add-three i, add-four i, drop-cons code i 0 h0, drop-cons code (suc i) 0 h1, drop-cons code (suc (suc i)) 0 h2, drop-cons code (suc (suc (suc i))) 0 h3)
+
+-- the chunk of four bytes at place k
+chunk-at : (n k : ℕ) (code : List ℕ) → k < n → get_or (first_chunks 4 n code) k [] ≡ take 4 (drop (4 * k) code)
+chunk-at zero k code h = absurd (omega arith)
+chunk-at (suc n) zero code h = refl
+chunk-at (suc n) (suc k) code h =
+    let next : 4 + 4 * k ≡ 4 * suc k = omega arith in
+    chunk-at n k (drop 4 code) (omega arith) ∙ ap (take 4) (drop-drop (4 * k) 4 code ∙ ap (λ (i : ℕ). drop i code) next)
+
+module _ (code : List ℕ) (chunks : List (List ℕ)) (k i : ℕ)
+    (chunked : chunks ≡ first_chunks 4 (length code / 4) code) (count : length chunks ≡ length code / 4) (place : i ≡ 4 * k) where
+  -- it stands in the code
+  pub chunk-within : k < length chunks → i + 4 ≤ length code
+  chunk-within h = omega arith
+
+  -- as a number, its lowest byte first, it is the word there
+  pub chunk-word : k < length chunks → from_le_bytes w32 (get_or chunks k []) ≡ word_at code i
+  chunk-word h =
+      let same : get_or chunks k [] ≡ take 4 (drop i code) = rw (chunked, place) (chunk-at (length code / 4) k code (omega arith)) in
+      rw (same, four code i (omega arith)) (omega arith)
 
 module _ (at : ℕ) (a b c d : ℕ) (code : List ℕ) (room : ℕ) where
   -- a word whose line fits is listed, and then the rest in the room that is left

@@ -8,7 +8,7 @@ use lib.ListN.{replicate}
 use Rattle.laws.specs.Every.{every}
 use Rattle.laws.specs.Slots.{first}
 use Rattle.machine.proofs.Sample.{two, three, NS, NSE, EEL2, E2H, TGE, RME, SEL2, at, boarded, stage1, stage2, guest, page_of, page, placed_of, slot, zeros, junk}
-use Rattle.machine.specs.Answer.{inserted_number, inserted_slot, looked_up_number, looked_up_slot, looked_up_out, looked_up_examined}
+use Rattle.machine.specs.Answer.{number_of, value_of, looked_up_slot, looked_up_out, looked_up_examined}
 use Rattle.machine.specs.Entry.{is_company, has_asids, in_reach, is_legal}
 use Rattle.machine.specs.Span.{is_level, height_of, exponent_at, exponent_of, has_span}
 use Rattle.machine.specs.State.{security_of, security_in, el2_enabled, vmid_in, domains_agree, bad_board, bad_fields, bad_state}
@@ -19,7 +19,6 @@ use Rattle.machine.specs.declared.entry.Entry.{Entry}
 use Rattle.machine.specs.declared.processor.State.{State}
 use Rattle.machine.specs.declared.scope.Regime.{Regime}
 use Rattle.machine.specs.declared.scope.Regime.TheVariants.{EL10, EL20, EL2, EL3}
-use Rattle.machine.specs.declared.scope.Security.{Security}
 use Rattle.machine.specs.declared.scope.Security.TheVariants.{Secure, NonSecure, Realm, Root}
 
 -- which of them are legal
@@ -254,7 +253,7 @@ senseless = refl
 
 -- number, slot and table
 abbrev inserting : Entry → ℕ → List ℕ → ℕ × ℕ × List ℕ
-inserting e out l = (inserted_number (inserted_of e l), inserted_slot (inserted_of e l), insert_table e out l)
+inserting e out l = (number_of (inserted_of e l), value_of (inserted_of e l), insert_table e out l)
 
 abbrev mine : Entry
 mine = page_of guest 1 9 false (2 ^ 12)
@@ -275,8 +274,8 @@ inserts = (refl, refl, refl, refl)
 pub refusals :
     (inserting broken 33 (zeros ++ (1 ∷ [])) ≡ (13, 0, zeros ++ (1 ∷ [])))
     × (inserting broken 33 (1 ∷ 2 ∷ []) ≡ (13, 0, 1 ∷ 2 ∷ []))
-    × (inserted_number (inserted_of broken (replicate 6147 0)) ≡ 13)
-    × (inserted_number (inserted_of mine (replicate 6144 0)) ≡ 0)
+    × (number_of (inserted_of broken (replicate 6147 0)) ≡ 13)
+    × (number_of (inserted_of mine (replicate 6144 0)) ≡ 0)
     × (inserting broken 33 (slot mine 1) ≡ (8, 0, slot mine 1))
     × (inserting broken 33 [] ≡ (8, 0, []))
     × (inserting mine 33 (slot mine 1) ≡ (9, 0, slot mine 1))
@@ -288,7 +287,7 @@ refusals = (refl, refl, refl, refl, refl, refl, refl, refl)
 abbrev looking : State → Regime → ℕ → ℕ → List ℕ → ℕ × ℕ × ℕ × ℕ
 looking st r asid a l =
     let f = looked_up_of st r asid a l in
-    (looked_up_number f, looked_up_slot f, looked_up_out f, looked_up_examined f)
+    (number_of f, looked_up_slot f, looked_up_out f, looked_up_examined f)
 
 -- at EL1 with EL2, Non-secure, VMID 7
 abbrev running : State
@@ -318,7 +317,7 @@ lookup-refusals = (refl, refl, refl, refl, refl, refl)
 
 -- whether an entry alone in a table is found
 abbrev is_found : State → Regime → ℕ → ℕ → Entry → ℕ
-is_found st r asid a e = looked_up_number (looked_up_of st r asid a (slot e 33))
+is_found st r asid a e = number_of (looked_up_of st r asid a (slot e 33))
 
 -- "whose span holds the address": its first and its last, not those beside it; blocks of either width; the last page of all
 pub spans :

@@ -10,7 +10,7 @@ use Rattle.laws.specs.Mask.{mask_from}
 use Rattle.laws.specs.Slots.{count, first, cleared}
 use Rattle.machine.proofs.Sample.{two, three, NS, NSE, EEL2, E2H, TGE, NV, FnXS, RME, SEL2, no_d128, no_lpa2, no_range, no_xs, at, boarded, host_with_ds, stage1, stage2, guest, page_of, page, slot, zeros, junk}
 use Rattle.machine.specs.Access.{is_barred, is_trapped, reaches, reached_of, scope_of, access_e1, access_e2, access_stage2, access_e3, access_of, is_unit_64k}
-use Rattle.machine.specs.Answer.{executed_number, executed_trap, executed_dropped, ran_number, ran_step, ran_dropped}
+use Rattle.machine.specs.Answer.{number_of, trap_of, value_of, ran_step}
 use Rattle.machine.specs.Asked.{form_of, told_of, asked_of}
 use Rattle.machine.specs.Entry.{is_company, has_asids, in_reach, is_legal}
 use Rattle.machine.specs.Execute.{resolved_of, executed_of, execute_table, steps_table, steps_dropped, ran_of, run_table}
@@ -31,11 +31,11 @@ use Rattle.machine.specs.declared.scope.Security.TheVariants.{Secure, NonSecure,
 abbrev executing : State → ℕ → ℕ → ℕ → List ℕ → ℕ × ℕ × ℕ × List ℕ
 executing st word xt xt2 l =
     let r = executed_of st word xt xt2 l in
-    (executed_number r, executed_trap r, executed_dropped r, execute_table st word xt xt2 l)
+    (number_of r, trap_of r, value_of r, execute_table st word xt xt2 l)
 
 -- how many of some entries, each alone in a table, go: one each, or none
 abbrev gone : State → ℕ → ℕ → ℕ → List Entry → List ℕ
-gone st word xt xt2 es = map (λ e. executed_dropped (executed_of st word xt xt2 (slot e 33))) es
+gone st word xt xt2 es = map (λ e. value_of (executed_of st word xt xt2 (slot e 33))) es
 
 -- at EL1 with EL2, Non-secure, VMID 7, number 1 of three, without LPA2; an operand by ASID, TG, NUM, TTL and the rest
 abbrev guesting : State
@@ -197,7 +197,7 @@ asids-and-leaves = (refl, refl, refl, refl, refl, refl, refl, refl, refl, refl)
 -- "13, 2, 1, 3 to 5 by the access rules ..., 6, 7", each with the table as it was; m4, m6, m9 and m10; Rt 31; a word of 2^32 and more
 pub answers :
     (executing (at 2 []) 0 0 0 (1 ∷ 2 ∷ []) ≡ (13, 0, 0, 1 ∷ 2 ∷ []))
-    × (executed_number (executed_of guesting 0xD5088260 (operand 0 1 0 0 0) 0 (replicate 6147 0)) ≡ 13)
+    × (number_of (executed_of guesting 0xD5088260 (operand 0 1 0 0 0) 0 (replicate 6147 0)) ≡ 13)
     × (executing (at 2 []) 0 0 0 junk ≡ (2, 0, 0, junk))
     × (executing guesting 0xD503201F (operand 0 1 0 0 0) 0 (slot (page guest 0) 5) ≡ (1, 0, 0, slot (page guest 0) 5))
     × (executing guesting (0xD5088260 + 2 ^ 32) (operand 0 1 0 0 0) 0 (slot (page guest 0) 5) ≡ (1, 0, 0, slot (page guest 0) 5))
@@ -240,7 +240,7 @@ tables = (refl, refl, refl, refl, refl, refl, refl)
 abbrev running : State → List ℕ → List ℕ → ℕ × ℕ × ℕ × List ℕ
 running st steps l =
     let r = ran_of st steps l in
-    (ran_number r, ran_step r, ran_dropped r, run_table st steps l)
+    (number_of r, ran_step r, value_of r, run_table st steps l)
 
 abbrev step : ℕ → List ℕ
 step n = 0xD5088260 ∷ operand 0 1 0 0 n ∷ 0 ∷ []
@@ -284,7 +284,7 @@ pub run-answers :
     × (running (at 2 []) unknown pages ≡ (2, 0, 0, pages))
     × (running guesting (replicate 51 0) pages ≡ (13, 0, 0, pages))
     × (running guesting (replicate 48 0) pages ≡ (10, 0, 0, pages))
-    × (ran_number (ran_of guesting (step 0) (replicate 6147 0)) ≡ 13)
+    × (number_of (ran_of guesting (step 0) (replicate 6147 0)) ≡ 13)
 unfolding ran_of run_table steps_table steps_dropped first executed_of execute_table resolved_of count cleared drops goes work_of same_company read_of row_of access_of is_barred is_trapped access_e1 access_e2 access_e3 access_stage2 scope_of reached_of
     reaches mask_from el2_enabled security_of security_in vmid_in hcrx_live bad_state bad_fields bad_board domains_agree every is_unit_64k asked_of form_of told_of ranged_of operand_of address_of hint_of range_of
     length_of is_unpredictable tlbi_exponent tlbip_exponent is_entry is_legal is_company has_asids in_reach has_span is_level exponent_of exponent_at height_of tag_of company_tag company_at entry_at

@@ -1,4 +1,5 @@
 -- Execute: its answer and the table case by case, which entries are gone, what stays, and the count.
+use Rattle.std.specs.Prelude.{Some, None, Result, Ok, Err}
 use Prim.Native.Nat.{◌/◌, ℕ, ◌+◌, ◌*◌, ◌<◌, ◌≤◌}
 use mathlib.Core.Bool.{Bool, true, false, cond, not}
 use mathlib.Core.List.{List}
@@ -11,10 +12,11 @@ use Rattle.laws.proofs.Truth.{not_so}
 use Rattle.laws.specs.Slots.{slots, holds_at, count, cleared, emptied}
 use Rattle.machine.proofs.Going.{going, drop-reads, drop-empty, drop-entry}
 use Rattle.machine.proofs.Inserting.{table-shape}
+use Rattle.machine.proofs.Numbers.{not-done}
 use Rattle.machine.proofs.Tags.{company-one, legal, reads-written, zero-empty}
 use Rattle.machine.proofs.Works.{Owner, owner, owner-guest, work-reached, resolves, scoped-below}
 use Rattle.machine.specs.Access.{reaches, access_of}
-use Rattle.machine.specs.Answer.{access_number, access_value, ranged_number, resolved_number, executed_number, executed_trap, executed_dropped}
+use Rattle.machine.specs.Answer.{number_of, trap_of, value_of}
 use Rattle.machine.specs.Asked.{asked_of}
 use Rattle.machine.specs.Execute.{resolved_range, resolved_access, resolved_word, resolved_of, executed_by, table_by, executed_of, execute_table}
 use Rattle.machine.specs.Goes.{work_of, goes, drops}
@@ -23,30 +25,24 @@ use Rattle.machine.specs.Table.{is_table, stage1_of, slot_reads, slot_entry, Hol
 use Rattle.machine.specs.Tag.{entry_at, is_entry}
 use Rattle.machine.specs.Word.{read_of}
 use Rattle.machine.specs.declared.entry.Company.{Company}
-use Rattle.machine.specs.declared.entry.Entry.{Entry}
-use Rattle.machine.specs.declared.operand.Ranged.{Ranged}
-use Rattle.machine.specs.declared.operation.Decoded.TheVariants.{Known, Unknown}
 use Rattle.machine.specs.declared.operation.Operation.{Operation}
 use Rattle.machine.specs.declared.processor.State.{State}
-use Rattle.machine.specs.declared.scope.Access.{Access}
 use Rattle.machine.specs.declared.scope.Regime.TheVariants.{EL10, EL3}
 use Rattle.machine.specs.declared.scope.Scope.{Scope}
-use Rattle.machine.specs.declared.work.Executed.{Executed}
-use Rattle.machine.specs.declared.work.Resolved.{Resolved}
 use Rattle.machine.specs.declared.work.Work.{Work}
-use Rattle.machine.specs.declared.operand.Ranged.TheVariants as ranged
-use Rattle.machine.specs.declared.scope.Access.TheVariants as access
-use Rattle.machine.specs.declared.work.Executed.TheVariants as executed
-use Rattle.machine.specs.declared.work.Resolved.TheVariants as resolved
+use Rattle.machine.specs.declared.refusal.Refusal.{Refusal}
+use Rattle.machine.specs.declared.refusal.Refusal.TheVariants as refusal
+use Rattle.machine.specs.declared.operand.Operand.{Operand}
+use Rattle.machine.specs.declared.operand.Range.{Range}
 
 -- "Execute: 13, 2, 1, 3 to 5 ..., 6, 7."
 pub execute-13 : (st : State) (word xt xt2 : ℕ) (l : List ℕ) → is_table l ≡ false →
-    (executed_of st word xt xt2 l ≡ executed.BadShape) × (execute_table st word xt xt2 l ≡ l)
+    (executed_of st word xt xt2 l ≡ Err refusal.BadShape) × (execute_table st word xt xt2 l ≡ l)
 unfolding executed_of execute_table
 execute-13 st word xt xt2 l h = (simp h, simp h)
 
 pub execute-2 : (st : State) (word xt xt2 : ℕ) (l : List ℕ) → is_table l ≡ true → bad_state st ≡ true →
-    (executed_of st word xt xt2 l ≡ executed.BadState) × (execute_table st word xt xt2 l ≡ l)
+    (executed_of st word xt xt2 l ≡ Err refusal.BadState) × (execute_table st word xt xt2 l ≡ l)
 unfolding executed_of execute_table
 execute-2 st word xt xt2 l h b = (simp (h, b), simp (h, b))
 
@@ -55,104 +51,86 @@ pub execute-good : (st : State) (word xt xt2 : ℕ) (l : List ℕ) → is_table 
 unfolding executed_of execute_table
 execute-good st word xt xt2 l h b = (simp (h, b), simp (h, b))
 
-pub execute-work : (st : State) (word xt xt2 : ℕ) (l : List ℕ) (w : Work) → is_table l ≡ true → bad_state st ≡ false → resolved_of st word xt xt2 ≡ resolved.Works w →
-    (executed_of st word xt xt2 l ≡ executed.Dropped (count (drops w) l)) × (execute_table st word xt xt2 l ≡ cleared (drops w) l)
+pub execute-work : (st : State) (word xt xt2 : ℕ) (l : List ℕ) (w : Work) → is_table l ≡ true → bad_state st ≡ false → resolved_of st word xt xt2 ≡ Ok w →
+    (executed_of st word xt xt2 l ≡ Ok (count (drops w) l)) × (execute_table st word xt xt2 l ≡ cleared (drops w) l)
 execute-work st word xt xt2 l w h b e =
     let (answer, table) = execute-good st word xt xt2 l h b in
-    (answer ∙ ap (λ (r : Resolved). executed_by r l) e, table ∙ ap (λ (r : Resolved). table_by r l) e)
+    (answer ∙ ap (λ (r : Result Work Refusal). executed_by r l) e, table ∙ ap (λ (r : Result Work Refusal). table_by r l) e)
 
 -- "Each is given exactly when its row holds and no earlier check applies."
 pub execute-answer : (st : State) (word xt xt2 : ℕ) (l : List ℕ) →
-    executed_number (executed_of st word xt xt2 l) ≡ cond (not (is_table l)) 13 (cond (bad_state st) 2 (resolved_number (resolved_of st word xt xt2)))
+    number_of (executed_of st word xt xt2 l) ≡ cond (not (is_table l)) 13 (cond (bad_state st) 2 (number_of (resolved_of st word xt xt2)))
 unfolding executed_of
 execute-answer st word xt xt2 l = go (is_table l) (bad_state st) (resolved_of st word xt xt2)
   where
-    go : (a b : Bool) (r : Resolved) →
-        executed_number (cond a (cond b executed.BadState (executed_by r l)) executed.BadShape) ≡ cond (not a) 13 (cond b 2 (resolved_number r))
+    go : (a b : Bool) (r : Result Work Refusal) →
+        number_of (cond a (cond b (Err refusal.BadState) (executed_by r l)) (Err refusal.BadShape)) ≡ cond (not a) 13 (cond b 2 (number_of r))
     go true true r = refl
-    go true false (resolved.Works w) = refl
-    go true false resolved.Unknown = refl
-    go true false resolved.Undefined = refl
-    go true false (resolved.Trapped v) = refl
-    go true false resolved.NoEffect = refl
-    go true false resolved.NoGranule = refl
-    go true false resolved.Unpredictable = refl
+    go true false (Ok w) = refl
+    go true false (Err r) = refl
     go false b r = refl
 
 -- 1: "word isn't one of the operations"
-pub execute-1 : (st : State) (word xt xt2 : ℕ) (l : List ℕ) → is_table l ≡ true → bad_state st ≡ false → read_of word ≡ Unknown →
-    executed_number (executed_of st word xt xt2 l) ≡ 1
+pub execute-1 : (st : State) (word xt xt2 : ℕ) (l : List ℕ) → is_table l ≡ true → bad_state st ≡ false → read_of word ≡ None →
+    number_of (executed_of st word xt xt2 l) ≡ 1
 unfolding resolved_of
 execute-1 st word xt xt2 l h b e =
-    ap executed_number (execute-good st word xt xt2 l h b).0 ∙ ap (λ x. executed_number (executed_by (resolved_word st xt xt2 x) l)) e
+    ap number_of (execute-good st word xt xt2 l h b).0 ∙ ap (λ x. number_of (executed_by (resolved_word st xt xt2 x) l)) e
 
 -- "3 to 5 by the access rules": their answer, and the number of a trap, where they do not let the operation run
-pub execute-access : (st : State) (word xt xt2 : ℕ) (l : List ℕ) (op : Operation) → is_table l ≡ true → bad_state st ≡ false → read_of word ≡ Known op →
-    (access_number (access_of st op) ≡ 0 → ⊥) →
-    (executed_number (executed_of st word xt xt2 l) ≡ access_number (access_of st op)) × (executed_trap (executed_of st word xt xt2 l) ≡ access_value (access_of st op))
+pub execute-access : (st : State) (word xt xt2 : ℕ) (l : List ℕ) (op : Operation) → is_table l ≡ true → bad_state st ≡ false → read_of word ≡ Some op →
+    (number_of (access_of st op) ≡ 0 → ⊥) →
+    (number_of (executed_of st word xt xt2 l) ≡ number_of (access_of st op)) × (trap_of (executed_of st word xt xt2 l) ≡ trap_of (access_of st op))
 unfolding resolved_of
 execute-access st word xt xt2 l op h b e = go (access_of st op) ((execute-good st word xt xt2 l h b).0 ∙ ap (λ x. executed_by (resolved_word st xt xt2 x) l) e)
   where
-    go : (a : Access) → executed_of st word xt xt2 l ≡ executed_by (resolved_access st op xt xt2 a) l → (access_number a ≡ 0 → ⊥) →
-        (executed_number (executed_of st word xt xt2 l) ≡ access_number a) × (executed_trap (executed_of st word xt xt2 l) ≡ access_value a)
-    go access.Undefined r n = (ap executed_number r, ap executed_trap r)
-    go (access.Trapped v) r n = (ap executed_number r, ap executed_trap r)
-    go access.NoEffect r n = (ap executed_number r, ap executed_trap r)
-    go (access.Runs s) r n = absurd (n (let z : ◌≡◌ {A = ℕ} 0 0 = refl in z))
+    go : (a : Result Scope Refusal) → executed_of st word xt xt2 l ≡ executed_by (resolved_access st op xt xt2 a) l → (number_of a ≡ 0 → ⊥) →
+        (number_of (executed_of st word xt xt2 l) ≡ number_of a) × (trap_of (executed_of st word xt xt2 l) ≡ trap_of a)
+    go (Err f) r n = (ap number_of r, ap trap_of r)
+    go (Ok s) r n = absurd (n (let z : ◌≡◌ {A = ℕ} 0 0 = refl in z))
 
 -- "6, 7": the operand's answer, where they do
-pub execute-range : (st : State) (word xt xt2 : ℕ) (l : List ℕ) (op : Operation) (s : Scope) → is_table l ≡ true → bad_state st ≡ false → read_of word ≡ Known op →
-    access_of st op ≡ access.Runs s → executed_number (executed_of st word xt xt2 l) ≡ ranged_number (asked_of st op s xt xt2)
+pub execute-range : (st : State) (word xt xt2 : ℕ) (l : List ℕ) (op : Operation) (s : Scope) → is_table l ≡ true → bad_state st ≡ false → read_of word ≡ Some op →
+    access_of st op ≡ Ok s → number_of (executed_of st word xt xt2 l) ≡ number_of (asked_of st op s xt xt2)
 unfolding resolved_of
 execute-range st word xt xt2 l op s h b e a =
-    ap executed_number (execute-good st word xt xt2 l h b).0
-    ∙ ap (λ x. executed_number (executed_by (resolved_word st xt xt2 x) l)) e
-    ∙ ap (λ x. executed_number (executed_by (resolved_access st op xt xt2 x) l)) a
+    ap number_of (execute-good st word xt xt2 l h b).0
+    ∙ ap (λ x. number_of (executed_by (resolved_word st xt xt2 x) l)) e
+    ∙ ap (λ x. number_of (executed_by (resolved_access st op xt xt2 x) l)) a
     ∙ go (asked_of st op s xt xt2)
   where
-    go : (r : Ranged) → executed_number (executed_by (resolved_range st op s r) l) ≡ ranged_number r
-    go (ranged.Covers o q) = refl
-    go ranged.NoGranule = refl
-    go ranged.Unpredictable = refl
+    go : (r : Result (Operand × Range) Refusal) → number_of (executed_by (resolved_range st op s r) l) ≡ number_of r
+    go (Ok (o, q)) = refl
+    go (Err r) = refl
 
 -- where execute answers 0 there was work, on a table in shape, in a good state
 pub record Done (st : State) (word xt xt2 : ℕ) (l : List ℕ) : Type 0 where
   pub work : Work
   pub shape : is_table l ≡ true
   pub good : bad_state st ≡ false
-  pub resolved : resolved_of st word xt xt2 ≡ resolved.Works work
+  pub resolved : resolved_of st word xt xt2 ≡ Ok work
 
-pub done : (st : State) (word xt xt2 : ℕ) (l : List ℕ) → executed_number (executed_of st word xt xt2 l) ≡ 0 → Done st word xt xt2 l
+pub done : (st : State) (word xt xt2 : ℕ) (l : List ℕ) → number_of (executed_of st word xt xt2 l) ≡ 0 → Done st word xt xt2 l
 unfolding executed_of
 done st word xt xt2 l = go (is_table l) refl (bad_state st) refl (resolved_of st word xt xt2) refl
   where
-    go : (a : Bool) → is_table l ≡ a → (b : Bool) → bad_state st ≡ b → (r : Resolved) → resolved_of st word xt xt2 ≡ r →
-        executed_number (cond a (cond b executed.BadState (executed_by r l)) executed.BadShape) ≡ 0 → Done st word xt xt2 l
-    go true ea false eb (resolved.Works w) er h = record { work = w; shape = ea; good = eb; resolved = er }
-    go true ea false eb resolved.Unknown er h = absurd (let z : ◌≡◌ {A = ℕ} 1 0 = h in omega arith)
-    go true ea false eb resolved.Undefined er h = absurd (let z : ◌≡◌ {A = ℕ} 3 0 = h in omega arith)
-    go true ea false eb (resolved.Trapped v) er h = absurd (let z : ◌≡◌ {A = ℕ} 4 0 = h in omega arith)
-    go true ea false eb resolved.NoEffect er h = absurd (let z : ◌≡◌ {A = ℕ} 5 0 = h in omega arith)
-    go true ea false eb resolved.NoGranule er h = absurd (let z : ◌≡◌ {A = ℕ} 6 0 = h in omega arith)
-    go true ea false eb resolved.Unpredictable er h = absurd (let z : ◌≡◌ {A = ℕ} 7 0 = h in omega arith)
+    go : (a : Bool) → is_table l ≡ a → (b : Bool) → bad_state st ≡ b → (r : Result Work Refusal) → resolved_of st word xt xt2 ≡ r →
+        number_of (cond a (cond b (Err refusal.BadState) (executed_by r l)) (Err refusal.BadShape)) ≡ 0 → Done st word xt xt2 l
+    go true ea false eb (Ok w) er h = record { work = w; shape = ea; good = eb; resolved = er }
+    go true ea false eb (Err r) er h = absurd (not-done r h)
     go true ea true eb r er h = absurd (let z : ◌≡◌ {A = ℕ} 2 0 = h in omega arith)
     go false ea b eb r er h = absurd (let z : ◌≡◌ {A = ℕ} 13 0 = h in omega arith)
 
 -- "Every answer but 0 leaves all lent memory unchanged."
-pub execute-refused : (st : State) (word xt xt2 : ℕ) (l : List ℕ) → (executed_number (executed_of st word xt xt2 l) ≡ 0 → ⊥) → execute_table st word xt xt2 l ≡ l
+pub execute-refused : (st : State) (word xt xt2 : ℕ) (l : List ℕ) → (number_of (executed_of st word xt xt2 l) ≡ 0 → ⊥) → execute_table st word xt xt2 l ≡ l
 unfolding executed_of execute_table
 execute-refused st word xt xt2 l = go (is_table l) (bad_state st) (resolved_of st word xt xt2)
   where
-    go : (a b : Bool) (r : Resolved) → (executed_number (cond a (cond b executed.BadState (executed_by r l)) executed.BadShape) ≡ 0 → ⊥) →
+    go : (a b : Bool) (r : Result Work Refusal) → (number_of (cond a (cond b (Err refusal.BadState) (executed_by r l)) (Err refusal.BadShape)) ≡ 0 → ⊥) →
         cond a (cond b l (table_by r l)) l ≡ l
     go true true r n = refl
-    go true false (resolved.Works w) n = absurd (n (let z : ◌≡◌ {A = ℕ} 0 0 = refl in z))
-    go true false resolved.Unknown n = refl
-    go true false resolved.Undefined n = refl
-    go true false (resolved.Trapped v) n = refl
-    go true false resolved.NoEffect n = refl
-    go true false resolved.NoGranule n = refl
-    go true false resolved.Unpredictable n = refl
+    go true false (Ok w) n = absurd (n (let z : ◌≡◌ {A = ℕ} 0 0 = refl in z))
+    go true false (Err r) n = refl
     go false b r n = refl
 
 -- after an execution a slot is three zeros if it was dropped, and as it was if not
@@ -180,7 +158,7 @@ pub record After (st : State) (word xt xt2 : ℕ) (l : List ℕ) (w : Work) : Ty
   -- and what read as empty does so still
   pub empty : (k : ℕ) → k < slots l → holds_at slot_reads l k ≡ false → holds_at slot_reads (execute_table st word xt xt2 l) k ≡ false
   -- "The call returns how many were dropped.": the slots that read as an entry and are three zeros now
-  pub number : executed_dropped (executed_of st word xt xt2 l) ≡ emptied slot_reads l (execute_table st word xt xt2 l)
+  pub number : value_of (executed_of st word xt xt2 l) ≡ emptied slot_reads l (execute_table st word xt xt2 l)
 
 pub after : (st : State) (word xt xt2 : ℕ) (l : List ℕ) → (d : Done st word xt xt2 l) → After st word xt xt2 l d.work
 after st word xt xt2 l d = record {
@@ -190,13 +168,13 @@ after st word xt xt2 l d = record {
   as_long = ap length new ∙ cleared-length (drops w) l;
   exactly = exactly;
   empty = λ (k : ℕ) (n : k < slots l) (h : holds_at slot_reads l k ≡ false). kept k n (drop-empty w (get_or l (3 * k) 0) (get_or l (3 * k + 1) 0) (get_or l (3 * k + 2) 0) h) ∙ h;
-  number = ap executed_dropped answer ∙ sym (ap (emptied slot_reads l) new ∙ cleared-emptied (drops w) slot_reads l (drop-reads w) (zero-empty 0));
+  number = ap value_of answer ∙ sym (ap (emptied slot_reads l) new ∙ cleared-emptied (drops w) slot_reads l (drop-reads w) (zero-empty 0));
 }
   where
     w : Work
     w = d.work
 
-    answer : executed_of st word xt xt2 l ≡ executed.Dropped (count (drops w) l)
+    answer : executed_of st word xt xt2 l ≡ Ok (count (drops w) l)
     answer = (execute-work st word xt xt2 l w d.shape d.good d.resolved).0
 
     new : execute_table st word xt xt2 l ≡ cleared (drops w) l
@@ -228,18 +206,18 @@ dropped-company w base tag out h =
     let reads = drop-reads w base tag out h in
     company-one (entry_at base tag).company w.company (going w (entry_at base tag) (sym (drop-entry w base tag out reads) ∙ h)).owned
 
-pub dropped-owner : (st : State) (word xt xt2 : ℕ) (w : Work) (base tag out : ℕ) → resolved_of st word xt xt2 ≡ resolved.Works w → drops w base tag out ≡ true →
+pub dropped-owner : (st : State) (word xt xt2 : ℕ) (w : Work) (base tag out : ℕ) → resolved_of st word xt xt2 ≡ Ok w → drops w base tag out ≡ true →
     Owner st (entry_at base tag).company
 dropped-owner st word xt xt2 w base tag out e h = subst (Owner st) (sym (dropped-company w base tag out h)) (owner st word xt xt2 w e)
 
 -- at EL1, the guest's own stage 1
-pub dropped-guest : (st : State) (word xt xt2 : ℕ) (w : Work) (base tag out : ℕ) → st.el ≡ 1 → resolved_of st word xt xt2 ≡ resolved.Works w →
+pub dropped-guest : (st : State) (word xt xt2 : ℕ) (w : Work) (base tag out : ℕ) → st.el ≡ 1 → resolved_of st word xt xt2 ≡ Ok w →
     drops w base tag out ≡ true → (entry_at base tag).company ≡ stage1_of st EL10
 dropped-guest st word xt xt2 w base tag out el e h = dropped-company w base tag out h ∙ owner-guest st word xt xt2 w el e
 
 -- "its processor is below the count and reached"
-pub dropped-reached : (st : State) (word xt xt2 : ℕ) (w : Work) (base tag out : ℕ) (op : Operation) → resolved_of st word xt xt2 ≡ resolved.Works w →
-    read_of word ≡ Known op → drops w base tag out ≡ true → reaches st op (entry_at base tag).processor ≡ true
+pub dropped-reached : (st : State) (word xt xt2 : ℕ) (w : Work) (base tag out : ℕ) (op : Operation) → resolved_of st word xt xt2 ≡ Ok w →
+    read_of word ≡ Some op → drops w base tag out ≡ true → reaches st op (entry_at base tag).processor ≡ true
 dropped-reached st word xt xt2 w base tag out op e known h =
     let reads = drop-reads w base tag out h in
     let p = (entry_at base tag).processor in
@@ -248,50 +226,40 @@ dropped-reached st word xt xt2 w base tag out op e known h =
 
 -- a slot that the operation cannot drop keeps its words
 pub execute-keeps : (st : State) (word xt xt2 : ℕ) (l : List ℕ) (k a b c : ℕ) → k < slots l → Holds l k a b c →
-    ((w : Work) → resolved_of st word xt xt2 ≡ resolved.Works w → drops w a b c ≡ false) → Holds (execute_table st word xt xt2 l) k a b c
+    ((w : Work) → resolved_of st word xt xt2 ≡ Ok w → drops w a b c ≡ false) → Holds (execute_table st word xt xt2 l) k a b c
 unfolding execute_table
 execute-keeps st word xt xt2 l k a b c n (ha, hb, hc) never = go (is_table l) (bad_state st) (resolved_of st word xt xt2) refl
   where
-    go : (s t : Bool) (r : Resolved) → resolved_of st word xt xt2 ≡ r → Holds (cond s (cond t l (table_by r l)) l) k a b c
+    go : (s t : Bool) (r : Result Work Refusal) → resolved_of st word xt xt2 ≡ r → Holds (cond s (cond t l (table_by r l)) l) k a b c
     go true true r e = (ha, hb, hc)
-    go true false (resolved.Works w) e =
+    go true false (Ok w) e =
         let (x, y, z) = cleared-stays w l k n (slot_same (drops w) ha hb hc ∙ never w e) in
         (x ∙ ha, y ∙ hb, z ∙ hc)
-    go true false resolved.Unknown e = (ha, hb, hc)
-    go true false resolved.Undefined e = (ha, hb, hc)
-    go true false (resolved.Trapped v) e = (ha, hb, hc)
-    go true false resolved.NoEffect e = (ha, hb, hc)
-    go true false resolved.NoGranule e = (ha, hb, hc)
-    go true false resolved.Unpredictable e = (ha, hb, hc)
+    go true false (Err r) e = (ha, hb, hc)
     go false t r e = (ha, hb, hc)
 
 pub execute-length : (st : State) (word xt xt2 : ℕ) (l : List ℕ) → length (execute_table st word xt xt2 l) ≡ length l
 unfolding execute_table
 execute-length st word xt xt2 l = go (is_table l) (bad_state st) (resolved_of st word xt xt2)
   where
-    go : (a b : Bool) (r : Resolved) → length (cond a (cond b l (table_by r l)) l) ≡ length l
+    go : (a b : Bool) (r : Result Work Refusal) → length (cond a (cond b l (table_by r l)) l) ≡ length l
     go true true r = refl
-    go true false (resolved.Works w) = cleared-length (drops w) l
-    go true false resolved.Unknown = refl
-    go true false resolved.Undefined = refl
-    go true false (resolved.Trapped v) = refl
-    go true false resolved.NoEffect = refl
-    go true false resolved.NoGranule = refl
-    go true false resolved.Unpredictable = refl
+    go true false (Ok w) = cleared-length (drops w) l
+    go true false (Err r) = refl
     go false b r = refl
 
 -- "harms no other company": an entry of another company than the operation's keeps its words
 pub execute-apart : (st : State) (word xt xt2 : ℕ) (l : List ℕ) (k : ℕ) → k < slots l →
-    ((w : Work) → resolved_of st word xt xt2 ≡ resolved.Works w → (slot_entry l k).company ≡ w.company → ⊥) → Kept l (execute_table st word xt xt2 l) k
+    ((w : Work) → resolved_of st word xt xt2 ≡ Ok w → (slot_entry l k).company ≡ w.company → ⊥) → Kept l (execute_table st word xt xt2 l) k
 execute-apart st word xt xt2 l k n apart =
     execute-keeps st word xt xt2 l k (get_or l (3 * k) 0) (get_or l (3 * k + 1) 0) (get_or l (3 * k + 2) 0) n (refl, refl, refl)
-    (λ (w : Work) (e : resolved_of st word xt xt2 ≡ resolved.Works w).
+    (λ (w : Work) (e : resolved_of st word xt xt2 ≡ Ok w).
     not_so (holds_at (drops w) l k)
     (λ (h : holds_at (drops w) l k ≡ true). apart w e (dropped-company w (get_or l (3 * k) 0) (get_or l (3 * k + 1) 0) (get_or l (3 * k + 2) 0) h)))
 
 -- A slot that no operation drops in a state, whatever the word and the operand.
 abbrev pub Never : State → ℕ → ℕ → ℕ → Type 0
-Never st a b c = (word xt xt2 : ℕ) (w : Work) → resolved_of st word xt xt2 ≡ resolved.Works w → drops w a b c ≡ false
+Never st a b c = (word xt xt2 : ℕ) (w : Work) → resolved_of st word xt xt2 ≡ Ok w → drops w a b c ≡ false
 
 -- a senseless slot
 pub never-empty : (st : State) (a b c : ℕ) → is_entry a b ≡ false → Never st a b c
@@ -333,34 +301,22 @@ pub other-kept : (st : State) (l : List ℕ) (k : ℕ) → k < slots l → (Owne
 other-kept st l k n other = never-kept st l k n (never_other st (get_or l (3 * k) 0) (get_or l (3 * k + 1) 0) (get_or l (3 * k + 2) 0) other)
 
 -- "The call returns how many were dropped.", for every input
-pub execute-count : (st : State) (word xt xt2 : ℕ) (l : List ℕ) → executed_dropped (executed_of st word xt xt2 l) ≡ emptied slot_reads l (execute_table st word xt xt2 l)
+pub execute-count : (st : State) (word xt xt2 : ℕ) (l : List ℕ) → value_of (executed_of st word xt xt2 l) ≡ emptied slot_reads l (execute_table st word xt xt2 l)
 execute-count st word xt xt2 l = go (executed_of st word xt xt2 l) refl
   where
-    none : (x : Executed) → executed_of st word xt xt2 l ≡ x → (executed_number x ≡ 0 → ⊥) → 0 ≡ emptied slot_reads l (execute_table st word xt xt2 l)
+    none : (x : Result ℕ Refusal) → executed_of st word xt xt2 l ≡ x → (number_of x ≡ 0 → ⊥) → 0 ≡ emptied slot_reads l (execute_table st word xt xt2 l)
     none x e h =
         sym
-        (ap (emptied slot_reads l) (execute-refused st word xt xt2 l (subst (λ (y : Executed). executed_number y ≡ 0 → ⊥) (sym e) h))
+        (ap (emptied slot_reads l) (execute-refused st word xt xt2 l (subst (λ (y : Result ℕ Refusal). number_of y ≡ 0 → ⊥) (sym e) h))
         ∙ emptied-same slot_reads l (zero-empty 0))
 
-    go : (x : Executed) → executed_of st word xt xt2 l ≡ x → executed_dropped x ≡ emptied slot_reads l (execute_table st word xt xt2 l)
-    go (executed.Dropped n) e =
-        let d = done st word xt xt2 l (ap executed_number e) in
-        ap executed_dropped (sym e) ∙ (after st word xt xt2 l d).number
-    go executed.BadShape e = none executed.BadShape e (λ h. let z : ◌≡◌ {A = ℕ} 13 0 = h in omega arith)
-    go executed.BadState e = none executed.BadState e (λ h. let z : ◌≡◌ {A = ℕ} 2 0 = h in omega arith)
-    go executed.Unknown e = none executed.Unknown e (λ h. let z : ◌≡◌ {A = ℕ} 1 0 = h in omega arith)
-    go executed.Undefined e = none executed.Undefined e (λ h. let z : ◌≡◌ {A = ℕ} 3 0 = h in omega arith)
-    go (executed.Trapped v) e = none (executed.Trapped v) e (λ h. let z : ◌≡◌ {A = ℕ} 4 0 = h in omega arith)
-    go executed.NoEffect e = none executed.NoEffect e (λ h. let z : ◌≡◌ {A = ℕ} 5 0 = h in omega arith)
-    go executed.NoGranule e = none executed.NoGranule e (λ h. let z : ◌≡◌ {A = ℕ} 6 0 = h in omega arith)
-    go executed.Unpredictable e = none executed.Unpredictable e (λ h. let z : ◌≡◌ {A = ℕ} 7 0 = h in omega arith)
+    go : (x : Result ℕ Refusal) → executed_of st word xt xt2 l ≡ x → value_of x ≡ emptied slot_reads l (execute_table st word xt xt2 l)
+    go (Ok n) e =
+        let d = done st word xt xt2 l (ap number_of e) in
+        ap value_of (sym e) ∙ (after st word xt xt2 l d).number
+    go (Err r) e = none (Err r) e (not-done r)
 
 -- not more slots are dropped than there are
-pub dropped-most : (r : Resolved) (l : List ℕ) → 3 * executed_dropped (executed_by r l) ≤ length l
-dropped-most (resolved.Works w) l = count_most (drops w) l
-dropped-most resolved.Unknown l = omega arith
-dropped-most resolved.Undefined l = omega arith
-dropped-most (resolved.Trapped v) l = omega arith
-dropped-most resolved.NoEffect l = omega arith
-dropped-most resolved.NoGranule l = omega arith
-dropped-most resolved.Unpredictable l = omega arith
+pub dropped-most : (r : Result Work Refusal) (l : List ℕ) → 3 * value_of (executed_by r l) ≤ length l
+dropped-most (Ok w) l = count_most (drops w) l
+dropped-most (Err r) l = omega arith

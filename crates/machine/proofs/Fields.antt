@@ -1,4 +1,5 @@
 -- Reading and writing operands are inverse to each other, in every form, for TLBI and TLBIP, and in either unit.
+use Rattle.std.specs.Prelude.{Ok, Err, Result}
 use Prim.Native.Nat.{ℕ, zero, suc, ◌+◌, ◌*◌, ◌-◌, ◌/◌, ◌^◌, ◌<◌, ◌≤◌}
 use mathlib.Core.Bool.{Bool, true, false, cond, not, ◌&&◌}
 use mathlib.Core.Path.{◌≡◌, refl, sym, ap, ap₂, subst, ◌∙◌}
@@ -10,11 +11,12 @@ use Rattle.laws.proofs.Truth.{and_0, and-1}
 use Rattle.laws.specs.Bits.{bits, down}
 use Rattle.machine.proofs.Bases.{SomeGranule, width_of, kept_of, field-most, field-read, shown_read}
 use Rattle.machine.proofs.Cleared.{one_of, xt-cleared, xt2-cleared}
+use Rattle.machine.specs.Answer.{number_of, written_xt, written_xt2}
 use Rattle.machine.specs.Operand.{has_asid, has_ns, granule_exponent, address_of, reads_as_zero, hint_of, tg_in, scale_in, num_in, ttl_in, base_in, fields_in, Within, operand_of, field_of, is_shown, fits, is_writable, xt_of, xt2_of, words_of, stays_xt, stays_xt2, cleared}
 use Rattle.machine.specs.declared.operand.Operand.{Operand}
-use Rattle.machine.specs.declared.operand.OperandRead.TheVariants.{Fields, NoGranule}
-use Rattle.machine.specs.declared.operand.OperandWritten.TheVariants.{Words, Refused}
 use Rattle.machine.specs.declared.operand.Told.{Told}
+use Rattle.machine.specs.declared.refusal.Refusal.TheVariants as refusal
+use Rattle.machine.specs.declared.refusal.Refusal.{Refusal}
 
 -- What is not refused, reason by reason.
 pub record Writable (t : Told) (o : Operand) : Type 0 where
@@ -121,7 +123,7 @@ unfolding hint_of
 hint-stays lpa2 tg ttl h = simp h
 
 -- the words of fields that are not refused read as those fields
-pub read-words : (t : Told) (o : Operand) → is_writable t o ≡ true → operand_of t (xt_of t o) (xt2_of t o) ≡ Fields o
+pub read-words : (t : Told) (o : Operand) → is_writable t o ≡ true → operand_of t (xt_of t o) (xt2_of t o) ≡ Ok o
 unfolding operand_of xt_of xt2_of
 read-words t o h =
     let w = writable t o h in
@@ -135,14 +137,14 @@ read-words t o h =
     let e = base-place t.tlbip (word o.ns o.asid o.tg o.scale o.num o.ttl low) b most p.low_place in
     simp (p.tg_place, p.scale_place, p.num_place, p.ttl_place, a, n, e, w.tg_some, w.shown, hint-stays t.lpa2 o.tg o.ttl w.hint)
 
-pub read-written : (t : Told) (o : Operand) (xt xt2 : ℕ) → words_of t o ≡ Words xt xt2 → operand_of t xt xt2 ≡ Fields o
+pub read-written : (t : Told) (o : Operand) (xt xt2 : ℕ) → words_of t o ≡ Ok (xt, xt2) → operand_of t xt xt2 ≡ Ok o
 unfolding words_of
 read-written t o xt xt2 h = go (is_writable t o) refl h
   where
-    go : (b : Bool) → is_writable t o ≡ b → cond b (Words (xt_of t o) (xt2_of t o)) Refused ≡ Words xt xt2 → operand_of t xt xt2 ≡ Fields o
+    go : (b : Bool) → is_writable t o ≡ b → cond {A = Result (ℕ × ℕ) Refusal} b (Ok (xt_of t o, xt2_of t o)) (Err refusal.Illegal) ≡ Ok (xt, xt2) → operand_of t xt xt2 ≡ Ok o
     go true e h =
-        let x : xt_of t o ≡ xt = cc in
-        let y : xt2_of t o ≡ xt2 = cc in
+        let x : xt_of t o ≡ xt = ap written_xt h in
+        let y : xt2_of t o ≡ xt2 = ap written_xt2 h in
         sym (ap₂ (operand_of t) x y) ∙ read-words t o e
     go false e h = absurd (let z : ◌≡◌ {A = ℕ} 0 1 = cc in omega arith)
 
@@ -210,7 +212,7 @@ kept_high false tg xt xt2 = refl
 
 -- "Writing what was read gives the word with RES0 bits, ignored bits and such a TTL cleared."
 pub words-read : (t : Told) (xt xt2 : ℕ) → eqb (tg_in xt) 0 ≡ false →
-    words_of t (fields_in t xt xt2) ≡ Words (cleared (stays_xt t xt) xt) (cleared (stays_xt2 t xt) xt2)
+    words_of t (fields_in t xt xt2) ≡ Ok (cleared (stays_xt t xt) xt, cleared (stays_xt2 t xt) xt2)
 unfolding words_of xt_of xt2_of hint_of
 words-read t xt xt2 h =
     let g = tg-some-read xt h in
@@ -227,43 +229,42 @@ words-read t xt xt2 h =
     )
 
 -- what reads as fields: those words' own, and TG is not 00
-pub read-fields : (t : Told) (xt xt2 : ℕ) (o : Operand) → operand_of t xt xt2 ≡ Fields o → (eqb (tg_in xt) 0 ≡ false) × (fields_in t xt xt2 ≡ o)
+pub read-fields : (t : Told) (xt xt2 : ℕ) (o : Operand) → operand_of t xt xt2 ≡ Ok o → (eqb (tg_in xt) 0 ≡ false) × (fields_in t xt xt2 ≡ o)
 unfolding operand_of
 read-fields t xt xt2 o h = go (eqb (tg_in xt) 0) h
   where
-    go : (b : Bool) → cond b NoGranule (Fields (fields_in t xt xt2)) ≡ Fields o → (b ≡ false) × (fields_in t xt xt2 ≡ o)
+    go : (b : Bool) → cond b (Err refusal.NoGranule) (Ok (fields_in t xt xt2)) ≡ Ok o → (b ≡ false) × (fields_in t xt xt2 ≡ o)
     go true h = absurd (let z : ◌≡◌ {A = ℕ} 0 1 = cc in omega arith)
     go false h = (refl, cc)
 
-pub written_read : (t : Told) (xt xt2 : ℕ) (o : Operand) → operand_of t xt xt2 ≡ Fields o →
-    words_of t o ≡ Words (cleared (stays_xt t xt) xt) (cleared (stays_xt2 t xt) xt2)
+pub written_read : (t : Told) (xt xt2 : ℕ) (o : Operand) → operand_of t xt xt2 ≡ Ok o →
+    words_of t o ≡ Ok (cleared (stays_xt t xt) xt, cleared (stays_xt2 t xt) xt2)
 written_read t xt xt2 o h =
     let (some, e) = read-fields t xt xt2 o h in
     ap (words_of t) (sym e) ∙ words-read t xt xt2 some
 
 -- clearing changes nothing that is read
-pub cleared-reads : (t : Told) (xt xt2 : ℕ) (o : Operand) → operand_of t xt xt2 ≡ Fields o →
-    operand_of t (cleared (stays_xt t xt) xt) (cleared (stays_xt2 t xt) xt2) ≡ Fields o
+pub cleared-reads : (t : Told) (xt xt2 : ℕ) (o : Operand) → operand_of t xt xt2 ≡ Ok o →
+    operand_of t (cleared (stays_xt t xt) xt) (cleared (stays_xt2 t xt) xt2) ≡ Ok o
 cleared-reads t xt xt2 o h = read-written t o _ _ (written_read t xt xt2 o h)
 
 -- the writer refuses nothing that could be read back
-pub read-writable : (t : Told) (xt xt2 : ℕ) (o : Operand) → operand_of t xt xt2 ≡ Fields o → is_writable t o ≡ true
+pub read-writable : (t : Told) (xt xt2 : ℕ) (o : Operand) → operand_of t xt xt2 ≡ Ok o → is_writable t o ≡ true
 read-writable t xt xt2 o h =
     let (some, e) = read-fields t xt xt2 o h in
     subst (λ (p : Operand). is_writable t p ≡ true) e (writable-holds t (fields_in t xt xt2) (writable-read t xt xt2 some))
 
 -- and what it refuses no words read as
-pub refused-unread : (t : Told) (o : Operand) → words_of t o ≡ Refused → (xt xt2 : ℕ) → operand_of t xt xt2 ≡ Fields o → ⊥
+pub refused-unread : (t : Told) (o : Operand) → words_of t o ≡ Err refusal.Illegal → (xt xt2 : ℕ) → operand_of t xt xt2 ≡ Ok o → ⊥
 refused-unread t o r xt xt2 h =
-    let e : Words (cleared (stays_xt t xt) xt) (cleared (stays_xt2 t xt) xt2) ≡ Refused = sym (written_read t xt xt2 o h) ∙ r in
-    let z : ◌≡◌ {A = ℕ} 0 1 = cc in
+    let z : ◌≡◌ {A = ℕ} 0 8 = ap number_of (sym (written_read t xt xt2 o h) ∙ r) in
     omega arith
 
 -- What callers use.
 pub writable-within : (t : Told) (o : Operand) → is_writable t o ≡ true → Within o
 writable-within t o h = let w = writable t o h in (some o.tg w.tg_some, w.tg_most, w.scale, w.num, w.ttl)
 
-pub read-within : (t : Told) (xt xt2 : ℕ) (o : Operand) → operand_of t xt xt2 ≡ Fields o → Within o
+pub read-within : (t : Told) (xt xt2 : ℕ) (o : Operand) → operand_of t xt xt2 ≡ Ok o → Within o
 read-within t xt xt2 o h = writable-within t o (read-writable t xt xt2 o h)
 
 top-fits : (a n : Bool) (ns asid : ℕ) → (a && n) ≡ false → fits a 16 asid ≡ true → fits n 1 ns ≡ true → ns * 2 ^ 15 + asid < 2 ^ 16

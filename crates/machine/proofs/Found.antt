@@ -1,21 +1,19 @@
 -- Look up: what turns a slot away, what is left to test, its answer case by case, and that what was inserted is found.
+use Rattle.std.specs.Prelude.{Result, Ok, Err}
 use Prim.Native.Nat.{ℕ, ◌+◌, ◌*◌, ◌%◌, ◌^◌, ◌<◌, ◌≤◌}
-use mathlib.Core.Bool.{Bool, true, false, cond, not, ◌&&◌, ◌||◌}
+use mathlib.Core.Bool.{Bool, true, false, cond, not, ◌&&◌}
 use mathlib.Core.List.{List}
 use mathlib.Core.Logic.{◌↔◌}
 use mathlib.Core.Path.{◌≡◌, refl, sym, ap, subst, ◌∙◌}
 use native.Mathlib.Omega.{arith}
-use lib.Dec.{eqb, ltb, leb}
 use lib.ListN.{get_or}
-use borrow.Author.Tests.{ltb-true, eqb-true, lt-ltb, le-ltb, eq-eqb, ne_eqb}
+use borrow.Author.Tests.{ltb-true, lt-ltb, le-ltb, eq-eqb, ne_eqb}
 use Rattle.laws.proofs.Slots.{slot_same, first-none, first_holds, first-is, some-none, none-some}
-use Rattle.laws.proofs.Truth.{and_0, and-1}
 use Rattle.laws.specs.Slots.{slots, holds_at, first, some}
 use Rattle.machine.proofs.Inserting.{taken, insert-done, others-read}
 use Rattle.machine.proofs.Tags.{entry-layout, written-reads, company-one, company-self, company-key}
-use Rattle.machine.specs.Answer.{looked_up_number}
-use Rattle.machine.specs.Entry.{has_asids, span_of, is_legal}
-use Rattle.machine.specs.Span.{in_span}
+use Rattle.machine.specs.Answer.{number_of}
+use Rattle.machine.specs.Entry.{is_legal}
 use Rattle.machine.specs.State.{bad_state}
 use Rattle.machine.specs.Table.{has_shape, is_table, inserted_of, insert_table, same_company, stage1_of, holds_address, translates, matches, found_at, looked_up_of}
 use Rattle.machine.specs.Tag.{layout, tag_of, company_at, entry_at, is_entry, Sized}
@@ -23,10 +21,9 @@ use Rattle.machine.specs.declared.entry.Company.{Company}
 use Rattle.machine.specs.declared.entry.Entry.{Entry}
 use Rattle.machine.specs.declared.processor.State.{State}
 use Rattle.machine.specs.declared.scope.Regime.{Regime}
-use Rattle.machine.specs.declared.table.Inserted.TheVariants.{At}
-use Rattle.machine.specs.declared.table.LookedUp.{LookedUp}
-use Rattle.machine.specs.declared.table.LookedUp.TheVariants.{Found, BadShape, BadState, NotFound}
 use Rattle.machine.specs.declared.table.Match.{Match}
+use Rattle.machine.specs.declared.refusal.Refusal.{Refusal}
+use Rattle.machine.specs.declared.refusal.Refusal.TheVariants as refusal
 
 -- a slot that reads as empty matches nothing
 pub match-empty : (c : Company) (own asid address base tag out : ℕ) → is_entry base tag ≡ false → matches c own asid address base tag out ≡ false
@@ -55,11 +52,11 @@ match-own key own asid address base tag out hk hl e h =
     ap (λ (c : Company). is_entry base tag && translates c own asid address (entry_at base tag)) one ∙ simp (h, company-self (company_at tag))
 
 -- "Look up: 13, 2, 14."
-pub lookup-13 : (st : State) (r : Regime) (asid address : ℕ) (l : List ℕ) → is_table l ≡ false → looked_up_of st r asid address l ≡ BadShape
+pub lookup-13 : (st : State) (r : Regime) (asid address : ℕ) (l : List ℕ) → is_table l ≡ false → looked_up_of st r asid address l ≡ Err refusal.BadShape
 unfolding looked_up_of
 lookup-13 st r asid address l h = simp h
 
-pub lookup-2 : (st : State) (r : Regime) (asid address : ℕ) (l : List ℕ) → is_table l ≡ true → bad_state st ≡ true → looked_up_of st r asid address l ≡ BadState
+pub lookup-2 : (st : State) (r : Regime) (asid address : ℕ) (l : List ℕ) → is_table l ≡ true → bad_state st ≡ true → looked_up_of st r asid address l ≡ Err refusal.BadState
 unfolding looked_up_of
 lookup-2 st r asid address l h b = simp (h, b)
 
@@ -68,7 +65,7 @@ abbrev pub sought : State → Regime → ℕ → ℕ → ℕ → ℕ → ℕ →
 sought st r asid address = matches (stage1_of st r) st.board.own asid address
 
 pub lookup-14 : (st : State) (r : Regime) (asid address : ℕ) (l : List ℕ) → is_table l ≡ true → bad_state st ≡ false → slots l ≤ first (sought st r asid address) l →
-    looked_up_of st r asid address l ≡ NotFound (slots l)
+    looked_up_of st r asid address l ≡ Err (refusal.NotFound (slots l))
 unfolding looked_up_of
 lookup-14 st r asid address l h b n = simp (h, b, le-ltb (first (sought st r asid address) l) (slots l) n)
 
@@ -82,7 +79,7 @@ lookup-0 st r asid address l k h b f n =
 
 -- "Each is given exactly when its row holds and no earlier check applies."
 pub lookup-answer : (st : State) (r : Regime) (asid address : ℕ) (l : List ℕ) →
-    looked_up_number (looked_up_of st r asid address l)
+    number_of (looked_up_of st r asid address l)
     ≡ cond (not (is_table l)) 13 (cond (bad_state st) 2 (cond (not (some (sought st r asid address) l)) 14 0))
 unfolding looked_up_of
 lookup-answer st r asid address l = go (is_table l) (bad_state st) (some (sought st r asid address) l)
@@ -91,7 +88,7 @@ lookup-answer st r asid address l = go (is_table l) (bad_state st) (some (sought
     k = first (sought st r asid address) l
 
     go : (a b c : Bool) →
-        looked_up_number (cond a (cond b BadState (cond c (found_at k l) (NotFound (slots l)))) BadShape) ≡ cond (not a) 13 (cond b 2 (cond (not c) 14 0))
+        number_of (cond a (cond b (Err refusal.BadState) (cond c (found_at k l) (Err (refusal.NotFound (slots l))))) (Err refusal.BadShape)) ≡ cond (not a) 13 (cond b 2 (cond (not c) 14 0))
     go true true c = refl
     go true false true = refl
     go true false false = refl
@@ -107,18 +104,16 @@ pub record Seen (st : State) (r : Regime) (asid address : ℕ) (l : List ℕ) (m
   pub output : m.out ≡ get_or l (3 * m.slot + 2) 0
   pub count : m.examined ≡ m.slot + 1
 
-pub seen : (st : State) (r : Regime) (asid address : ℕ) (l : List ℕ) (m : Match) → looked_up_of st r asid address l ≡ Found m → Seen st r asid address l m
+pub seen : (st : State) (r : Regime) (asid address : ℕ) (l : List ℕ) (m : Match) → looked_up_of st r asid address l ≡ Ok m → Seen st r asid address l m
 unfolding looked_up_of
 seen st r asid address l m = go (is_table l) (bad_state st) (some p l) refl
   where
     p : ℕ → ℕ → ℕ → Bool
     p = sought st r asid address
 
-    match : LookedUp → Match
-    match (Found n) = n
-    match BadShape = m
-    match BadState = m
-    match (NotFound n) = m
+    match : Result Match Refusal → Match
+    match (Ok n) = n
+    match (Err r) = m
 
     found : first p l < slots l → record { slot = first p l; out = get_or l (3 * first p l + 2) 0; examined = first p l + 1 } ≡ m → Seen st r asid address l m
     found h e =
@@ -131,12 +126,12 @@ seen st r asid address l m = go (is_table l) (bad_state st) (some p l) refl
           count = refl;
         })
 
-    go : (a b c : Bool) → some p l ≡ c → cond a (cond b BadState (cond c (found_at (first p l) l) (NotFound (slots l)))) BadShape ≡ Found m →
+    go : (a b c : Bool) → some p l ≡ c → cond a (cond b (Err refusal.BadState) (cond c (found_at (first p l) l) (Err (refusal.NotFound (slots l))))) (Err refusal.BadShape) ≡ Ok m →
         Seen st r asid address l m
-    go true true c ec h = absurd (let z : ◌≡◌ {A = ℕ} 2 0 = ap looked_up_number h in omega arith)
+    go true true c ec h = absurd (let z : ◌≡◌ {A = ℕ} 2 0 = ap number_of h in omega arith)
     go true false true ec h = found (ltb-true (first p l) (slots l) ec) (ap match h)
-    go true false false ec h = absurd (let z : ◌≡◌ {A = ℕ} 14 0 = ap looked_up_number h in omega arith)
-    go false b c ec h = absurd (let z : ◌≡◌ {A = ℕ} 13 0 = ap looked_up_number h in omega arith)
+    go true false false ec h = absurd (let z : ◌≡◌ {A = ℕ} 14 0 = ap number_of h in omega arith)
+    go false b c ec h = absurd (let z : ◌≡◌ {A = ℕ} 13 0 = ap number_of h in omega arith)
 
 -- the slot of a legal entry matches exactly where the entry translates
 pub written-matches : (c : Company) (own asid address : ℕ) (e : Entry) (out : ℕ) → Sized e → is_legal e ≡ true →
@@ -147,10 +142,10 @@ written-matches c own asid address e out z h =
     ap (λ (b : Bool). b && translates c own asid address (entry_at e.base (tag_of e))) reads ∙ ap (translates c own asid address) back
 
 -- what was inserted is found, where nothing earlier matches: its slot, its output word, and as many slots examined
-pub inserted-found : (e : Entry) (out : ℕ) (l : List ℕ) (k : ℕ) (st : State) (r : Regime) (asid address : ℕ) → Sized e → inserted_of e l ≡ At k →
+pub inserted-found : (e : Entry) (out : ℕ) (l : List ℕ) (k : ℕ) (st : State) (r : Regime) (asid address : ℕ) → Sized e → inserted_of e l ≡ Ok k →
     bad_state st ≡ false → translates (stage1_of st r) st.board.own asid address e ≡ true →
     ((j : ℕ) → j < k → holds_at (sought st r asid address) l j ≡ false) →
-    looked_up_of st r asid address (insert_table e out l) ≡ Found (record { slot = k; out = out; examined = k + 1 })
+    looked_up_of st r asid address (insert_table e out l) ≡ Ok (record { slot = k; out = out; examined = k + 1 })
 inserted-found e out l k st r asid address z h good t none =
     let p = sought st r asid address in
     let new = insert_table e out l in
@@ -160,11 +155,11 @@ inserted-found e out l k st r asid address z h good t none =
     let here : holds_at p new k ≡ true = slot_same p it.base it.tag it.output ∙ written-matches (stage1_of st r) st.board.own asid address e out z (insert-done e l k h).1 ∙ t in
     let before : (j : ℕ) → j < k → holds_at p new j ≡ false = λ (j : ℕ) (n : j < k). others-read e out l k h p j (λ (q : j ≡ k). omega arith) ∙ none j n in
     let place : first p new ≡ k = first-is p new k within before here in
-    lookup-0 st r asid address new k shape good (sym place) within ∙ ap (λ (o : ℕ). Found (record { slot = k; out = o; examined = k + 1 })) it.output
+    lookup-0 st r asid address new k shape good (sym place) within ∙ ap (λ (o : ℕ). (Ok (record { slot = k; out = o; examined = k + 1 }))) it.output
 
 -- "14: address not found", exactly if no slot matches; "or all"
 pub unseen : (st : State) (r : Regime) (asid address : ℕ) (l : List ℕ) → is_table l ≡ true → bad_state st ≡ false →
-    (looked_up_of st r asid address l ≡ NotFound (slots l)) ↔ ((k : ℕ) → k < slots l → holds_at (sought st r asid address) l k ≡ false)
+    (looked_up_of st r asid address l ≡ Err (refusal.NotFound (slots l))) ↔ ((k : ℕ) → k < slots l → holds_at (sought st r asid address) l k ≡ false)
 unfolding looked_up_of
 unseen st r asid address l shape good =
     (there, λ (none : (k : ℕ) → k < slots l → holds_at (sought st r asid address) l k ≡ false). simp (shape, good, none-some (sought st r asid address) l none))
@@ -172,11 +167,11 @@ unseen st r asid address l shape good =
     p : ℕ → ℕ → ℕ → Bool
     p = sought st r asid address
 
-    there : looked_up_of st r asid address l ≡ NotFound (slots l) → (k : ℕ) → k < slots l → holds_at p l k ≡ false
+    there : looked_up_of st r asid address l ≡ Err (refusal.NotFound (slots l)) → (k : ℕ) → k < slots l → holds_at p l k ≡ false
     there h = go (some p l) refl
       where
         go : (b : Bool) → some p l ≡ b → (k : ℕ) → k < slots l → holds_at p l k ≡ false
         go true s =
             let at : looked_up_of st r asid address l ≡ found_at (first p l) l = simp (shape, good, s) in
-            absurd (let z : ◌≡◌ {A = ℕ} 14 0 = ap looked_up_number (sym h ∙ at) in omega arith)
+            absurd (let z : ◌≡◌ {A = ℕ} 14 0 = ap number_of (sym h ∙ at) in omega arith)
         go false s = some-none p l s

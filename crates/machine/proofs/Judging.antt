@@ -1,4 +1,5 @@
 -- Judging: what a run does to one entry, what a list does to every table, and when a list is accepted.
+use Rattle.std.specs.Prelude.{Result, Ok, Err}
 use Prim.Native.Nat.{ℕ, zero, suc, ◌+◌, ◌*◌, ◌^◌, ◌<◌}
 use mathlib.Core.Bool.{Bool, true, false, cond, not, ◌||◌}
 use mathlib.Core.List.{List, [], ◌∷◌}
@@ -14,7 +15,7 @@ use Rattle.machine.proofs.Going.{going, drop-entry}
 use Rattle.machine.proofs.Inserting.{insert-0}
 use Rattle.machine.proofs.Running.{run-0, drops_by, drops_any, ran-all, ran-done}
 use Rattle.machine.proofs.Tags.{entry-low, written-reads, reads-written, zero-empty, company-one}
-use Rattle.machine.specs.Answer.{ran_number}
+use Rattle.machine.specs.Answer.{number_of}
 use Rattle.machine.specs.Entry.{is_legal}
 use Rattle.machine.specs.Execute.{resolved_of, is_list, on_work, refuses, ran_of, run_table}
 use Rattle.machine.specs.Goes.{goes}
@@ -27,23 +28,17 @@ use Rattle.machine.specs.declared.entry.Company.{Company}
 use Rattle.machine.specs.declared.entry.Entry.{Entry}
 use Rattle.machine.specs.declared.judge.Target.{Target}
 use Rattle.machine.specs.declared.processor.State.{State}
-use Rattle.machine.specs.declared.table.Inserted.TheVariants.{At}
-use Rattle.machine.specs.declared.work.Resolved.{Resolved}
-use Rattle.machine.specs.declared.work.Resolved.TheVariants as resolved
+use Rattle.machine.specs.declared.refusal.Refusal.{Refusal}
+use Rattle.machine.specs.declared.work.Work.{Work}
 
 -- a step drops an entry
 abbrev pub is_taken : State → Entry → ℕ → ℕ → ℕ → Bool
 is_taken st e word xt xt2 = on_work (λ w. goes w e) (resolved_of st word xt xt2)
 
 -- a slot that reads as an entry is dropped by a run exactly if some step drops the entry
-by-takes : (r : Resolved) (a b c : ℕ) → is_entry a b ≡ true → drops_by r a b c ≡ on_work (λ w. goes w (entry_at a b)) r
-by-takes (resolved.Works w) a b c h = drop-entry w a b c h
-by-takes resolved.Unknown a b c h = refl
-by-takes resolved.Undefined a b c h = refl
-by-takes (resolved.Trapped v) a b c h = refl
-by-takes resolved.NoEffect a b c h = refl
-by-takes resolved.NoGranule a b c h = refl
-by-takes resolved.Unpredictable a b c h = refl
+by-takes : (r : Result Work Refusal) (a b c : ℕ) → is_entry a b ≡ true → drops_by r a b c ≡ on_work (λ w. goes w (entry_at a b)) r
+by-takes (Ok w) a b c h = drop-entry w a b c h
+by-takes (Err r) a b c h = refl
 
 any-taken : (st : State) (steps : List ℕ) (a b c : ℕ) → is_entry a b ≡ true → drops_any st steps a b c ≡ some (is_taken st (entry_at a b)) steps
 unfolding drops_any first
@@ -55,16 +50,16 @@ any-taken st (x ∷ y ∷ z ∷ steps) a b c h =
 
 -- a list whose steps all end as done runs from every table
 pub list_done : (st : State) (steps l : List ℕ) → is_list steps ≡ true → bad_state st ≡ false → some (refuses st) steps ≡ false → is_table l ≡ true →
-    ran_number (ran_of st steps l) ≡ 0
+    number_of (ran_of st steps l) ≡ 0
 list_done st steps l list good none shape =
-    ap ran_number (run-0 st steps l (simp (shape, list)) good (ltb-false (first (refuses st) steps) (slots steps) none)).0
+    ap number_of (run-0 st steps l (simp (shape, list)) good (ltb-false (first (refuses st) steps) (slots steps) none)).0
 
 -- and conversely
-pub done-list : (st : State) (steps l : List ℕ) → ran_number (ran_of st steps l) ≡ 0 → some (refuses st) steps ≡ false
+pub done-list : (st : State) (steps l : List ℕ) → number_of (ran_of st steps l) ≡ 0 → some (refuses st) steps ≡ false
 done-list st steps l h = let (shape, list, good, none) = ran-done st steps l h in le-ltb (first (refuses st) steps) (slots steps) none
 
 -- what a run leaves of the three words of a slot
-run-slot : (st : State) (steps l : List ℕ) (k : ℕ) → ran_number (ran_of st steps l) ≡ 0 → k < slots l → holds_at slot_reads l k ≡ true → (b : Bool) →
+run-slot : (st : State) (steps l : List ℕ) (k : ℕ) → number_of (ran_of st steps l) ≡ 0 → k < slots l → holds_at slot_reads l k ≡ true → (b : Bool) →
     some (is_taken st (slot_entry l k)) steps ≡ b →
     (get_or (run_table st steps l) (3 * k) 0 ≡ cond b 0 (get_or l (3 * k) 0))
     × (get_or (run_table st steps l) (3 * k + 1) 0 ≡ cond b 0 (get_or l (3 * k + 1) 0))
@@ -82,7 +77,7 @@ run-slot st steps l k h n reads b e =
     word i p = ap (λ (m : List ℕ). get_or m i 0) p
 
 -- a slot that reads as an entry after a run did so before, and its words are what they were
-run-reads : (st : State) (steps l : List ℕ) (k : ℕ) → ran_number (ran_of st steps l) ≡ 0 → k < slots l → holds_at slot_reads (run_table st steps l) k ≡ true →
+run-reads : (st : State) (steps l : List ℕ) (k : ℕ) → number_of (ran_of st steps l) ≡ 0 → k < slots l → holds_at slot_reads (run_table st steps l) k ≡ true →
     (holds_at slot_reads l k ≡ true) × (some (is_taken st (slot_entry l k)) steps ≡ false) × (slot_entry (run_table st steps l) k ≡ slot_entry l k)
 run-reads st steps l k h n reads = go (holds_at (drops_any st steps) l k) refl
   where
@@ -107,14 +102,14 @@ run-reads st steps l k h n reads = go (holds_at (drops_any st steps) l k) refl
         (before, sym (any-taken st steps (get_or l (3 * k) 0) (get_or l (3 * k + 1) 0) (get_or l (3 * k + 2) 0) before) ∙ e, ap₂ entry_at a t)
 
 -- the table of one slot that insert makes of a legal entry
-alone-made : (e : Entry) → is_legal e ≡ true → (inserted_of e (0 ∷ 0 ∷ 0 ∷ []) ≡ At 0) × (alone e ≡ (e.base ∷ tag_of e ∷ 0 ∷ []))
+alone-made : (e : Entry) → is_legal e ≡ true → (inserted_of e (0 ∷ 0 ∷ 0 ∷ []) ≡ Ok 0) × (alone e ≡ (e.base ∷ tag_of e ∷ 0 ∷ []))
 unfolding first is_entry
 alone-made e h =
     let z : is_entry 0 0 ≡ false = zero-empty 0 in
     let f : 0 ≡ first is_empty (0 ∷ 0 ∷ 0 ∷ []) = simp z in
     insert-0 e 0 (0 ∷ 0 ∷ 0 ∷ []) 0 refl h f (omega arith)
 
-pub alone-inserted : (e : Entry) → is_legal e ≡ true → inserted_of e (0 ∷ 0 ∷ 0 ∷ []) ≡ At 0
+pub alone-inserted : (e : Entry) → is_legal e ≡ true → inserted_of e (0 ∷ 0 ∷ 0 ∷ []) ≡ Ok 0
 alone-inserted e h = (alone-made e h).0
 
 pub alone-words : (e : Entry) → is_legal e ≡ true → alone e ≡ (e.base ∷ tag_of e ∷ 0 ∷ [])
@@ -144,7 +139,7 @@ alone-reads e z h =
     (ap (λ (m : List ℕ). holds_at slot_reads m 0) l ∙ reads, ap (λ (m : List ℕ). slot_entry m 0) l ∙ back)
 
 -- what a run leaves of it
-pub alone-run : (st : State) (steps : List ℕ) (e : Entry) (b : Bool) → Sized e → is_legal e ≡ true → ran_number (ran_of st steps (alone e)) ≡ 0 →
+pub alone-run : (st : State) (steps : List ℕ) (e : Entry) (b : Bool) → Sized e → is_legal e ≡ true → number_of (ran_of st steps (alone e)) ≡ 0 →
     some (is_taken st e) steps ≡ b → run_table st steps (alone e) ≡ cond b (0 ∷ 0 ∷ 0 ∷ []) (alone e)
 unfolding cleared
 alone-run st steps e b z h done taken =
@@ -159,11 +154,11 @@ alone-run st steps e b z h done taken =
     same c i = ap (λ (x : Bool). cond x (0 ∷ 0 ∷ 0 ∷ []) (e.base ∷ tag_of e ∷ 0 ∷ [])) i
 
 -- it still holds the entry exactly if no step drops that
-pub survive : (st : State) (steps : List ℕ) (e : Entry) → Sized e → is_legal e ≡ true → ran_number (ran_of st steps (alone e)) ≡ 0 →
+pub survive : (st : State) (steps : List ℕ) (e : Entry) → Sized e → is_legal e ≡ true → number_of (ran_of st steps (alone e)) ≡ 0 →
     some (is_taken st e) steps ≡ false → Survives st steps e
 survive st steps e z h done none = alone-run st steps e false z h done none
 
-pub survived : (st : State) (steps : List ℕ) (e : Entry) → Sized e → is_legal e ≡ true → ran_number (ran_of st steps (alone e)) ≡ 0 → Survives st steps e →
+pub survived : (st : State) (steps : List ℕ) (e : Entry) → Sized e → is_legal e ≡ true → number_of (ran_of st steps (alone e)) ≡ 0 → Survives st steps e →
     some (is_taken st e) steps ≡ false
 survived st steps e z h done s = not_so (some (is_taken st e) steps) gone
   where
@@ -173,17 +168,12 @@ survived st steps e z h done s = not_so (some (is_taken st e) steps) gone
         clash (alone-reads e z h).0 (ap (λ (m : List ℕ). holds_at slot_reads m 0) (sym zeros) ∙ zero-empty 0)
 
 -- an entry that some step drops is of the company of that step
-taken-company : (c : Company) (r : Resolved) (e : Entry) → on_work (λ w. not (same_company w.company c)) r ≡ false → on_work (λ w. goes w e) r ≡ true →
+taken-company : (c : Company) (r : Result Work Refusal) (e : Entry) → on_work (λ w. not (same_company w.company c)) r ≡ false → on_work (λ w. goes w e) r ≡ true →
     same_company e.company c ≡ true
-taken-company c (resolved.Works w) e i h =
+taken-company c (Ok w) e i h =
     let own : e.company ≡ w.company = company-one e.company w.company (going w e h).owned in
     ap (λ (d : Company). same_company d c) own ∙ not-false (same_company w.company c) i
-taken-company c resolved.Unknown e i h = clash h refl
-taken-company c resolved.Undefined e i h = clash h refl
-taken-company c (resolved.Trapped v) e i h = clash h refl
-taken-company c resolved.NoEffect e i h = clash h refl
-taken-company c resolved.NoGranule e i h = clash h refl
-taken-company c resolved.Unpredictable e i h = clash h refl
+taken-company c (Err r) e i h = clash h refl
 
 -- so a list of which no step is outside the company drops no entry of another
 spared : (st : State) (c : Company) (steps : List ℕ) (e : Entry) → some (is_outside st c) steps ≡ false → same_company e.company c ≡ false →
@@ -203,7 +193,7 @@ pub does : (st : State) (t : Target) (steps : List ℕ) → is_list steps ≡ tr
     some (is_outside st t.company) steps ≡ false → ((e : Entry) → Aimed t e → some (is_taken st e) steps ≡ true) → Does st t steps
 does st t steps list good done inside taken = record { done = runs; clears = clears; spares = spares }
   where
-    runs : (l : List ℕ) → is_table l ≡ true → AreWords l → ran_number (ran_of st steps l) ≡ 0
+    runs : (l : List ℕ) → is_table l ≡ true → AreWords l → number_of (ran_of st steps l) ≡ 0
     runs l shape words = list_done st steps l list good done shape
 
     clears : (l : List ℕ) → is_table l ≡ true → AreWords l → (k : ℕ) → k < slots l → holds_at slot_reads (run_table st steps l) k ≡ true →

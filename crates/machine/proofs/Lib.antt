@@ -1,4 +1,5 @@
 -- Facts that show the book's definitions to be the paper's.
+pub mod Numbers
 pub mod Rows
 pub mod Trip
 pub mod States

@@ -1,4 +1,5 @@
 -- The pages' pseudocode and the general rule are one at the pages' operations.
+use Rattle.std.specs.Prelude.{Result, Ok, Err}
 use Prim.Native.Nat.{ℕ, zero, suc, ◌≤◌}
 use mathlib.Core.Bool.{Bool, true, false, cond, not, ◌&&◌, ◌||◌, and-true, or-true}
 use mathlib.Core.Path.{◌≡◌, refl, sym, ap, ◌∙◌}
@@ -15,10 +16,11 @@ use Rattle.machine.specs.declared.operation.Name.TheVariants.{RVALE3}
 use Rattle.machine.specs.declared.operation.Operation.{Operation}
 use Rattle.machine.specs.declared.operation.Share.TheVariants.{Local, Outer}
 use Rattle.machine.specs.declared.processor.State.{State}
-use Rattle.machine.specs.declared.scope.Access.TheVariants.{Undefined, Trapped, NoEffect, Runs}
-use Rattle.machine.specs.declared.scope.Access.{Access}
 use Rattle.machine.specs.declared.scope.Regime.TheVariants.{EL10, EL20, EL2, EL3}
 use Rattle.machine.specs.declared.scope.Security.TheVariants.{Secure, NonSecure, Realm}
+use Rattle.machine.specs.declared.refusal.Refusal.{Refusal}
+use Rattle.machine.specs.declared.refusal.Refusal.TheVariants as refusal
+use Rattle.machine.specs.declared.scope.Scope.{Scope}
 
 -- The functions that the pseudocode calls are 01's.
 security-is : (st : State) → security_of st ≡ page_security st
@@ -61,8 +63,8 @@ live-is st = rw (enabled-is st) (go st.features.hcx st.present.el3 st.scr.hxen (
     go true true false on = refl
 
 -- the first lines of every page: what is absent, and EL0
-first-lines : (absent xs el0 odd : Bool) (a : Access) → odd ≡ false →
-    cond (absent || xs || el0 || odd) Undefined a ≡ cond absent Undefined (cond xs Undefined (cond el0 Undefined a))
+first-lines : (absent xs el0 odd : Bool) (a : Result Scope Refusal) → odd ≡ false →
+    cond (absent || xs || el0 || odd) (Err refusal.Undefined) a ≡ cond absent (Err refusal.Undefined) (cond xs (Err refusal.Undefined) (cond el0 (Err refusal.Undefined) a))
 first-lines true xs el0 odd a h = refl
 first-lines false true el0 odd a h = refl
 first-lines false false true odd a h = refl
@@ -86,20 +88,20 @@ scope-000 st nxs rt true = refl
 scope-000 st nxs rt false = refl
 
 runs-000 : (st : State) (nxs : Bool) (rt : ℕ) →
-    Runs (scope_of st (op000 nxs rt) (cond (e2h_of st) EL20 EL2) false nxs) ≡ rva2 st nxs
-runs-000 st nxs rt = ap Runs (scope-000 st nxs rt (e2h_of st)) ∙ rw (enabled-is st, security-is st) refl
+    Ok (scope_of st (op000 nxs rt) (cond (e2h_of st) EL20 EL2) false nxs) ≡ rva2 st nxs
+runs-000 st nxs rt = ap Ok (scope-000 st nxs rt (e2h_of st)) ∙ rw (enabled-is st, security-is st) refl
 
 -- from EL1 on: NV at EL1, what runs at EL2, and EL2 disabled at EL3
-from-el1 : (st : State) → Good st → (trap run off : Access) →
-    cond (eqb st.el 1) (cond (el2_enabled st && st.hcr.nv) trap Undefined) (cond (el2_enabled st) run off)
-    ≡ cond (eqb st.el 1) (cond (page_nv st) trap Undefined)
+from-el1 : (st : State) → Good st → (trap run off : Result Scope Refusal) →
+    cond (eqb st.el 1) (cond (el2_enabled st && st.hcr.nv) trap (Err refusal.Undefined)) (cond (el2_enabled st) run off)
+    ≡ cond (eqb st.el 1) (cond (page_nv st) trap (Err refusal.Undefined))
     (cond (eqb st.el 2) run (cond (not (page_el2_enabled st)) off run))
 from-el1 st g trap run off =
     go (eqb st.el 1) (eqb st.el 2) (el2_enabled st) (page_el2_enabled st) (λ (e : eqb st.el 2 ≡ true). g.at_el2 (eqb-true _ _ e)) (enabled-is st)
   where
     go : (one two on page : Bool) → (two ≡ true → on ≡ true) → on ≡ page →
-        cond one (cond (on && st.hcr.nv) trap Undefined) (cond on run off)
-        ≡ cond one (cond (page && st.hcr.nv) trap Undefined) (cond two run (cond (not page) off run))
+        cond one (cond (on && st.hcr.nv) trap (Err refusal.Undefined)) (cond on run off)
+        ≡ cond one (cond (page && st.hcr.nv) trap (Err refusal.Undefined)) (cond two run (cond (not page) off run))
     go true two on page h e = simp e
     go false true on page h e = simp (h refl)
     go false false true page h e = simp (← e)
@@ -129,11 +131,11 @@ page-000 st good-st nxs rt even =
     let g = good st good-st in
     first-lines (not st.features.d128) (nxs && not st.features.xs) (eqb st.el 0) (is_odd_pair (op000 nxs rt)) _ even
     ∙ rw (valid-el2 st g, ← runs-000 st nxs rt)
-    (ap (λ (a : Access). cond (not st.features.d128) Undefined (cond (nxs && not st.features.xs) Undefined (cond (eqb st.el 0) Undefined a)))
+    (ap (λ (a : Result Scope Refusal). cond (not st.features.d128) (Err refusal.Undefined) (cond (nxs && not st.features.xs) (Err refusal.Undefined) (cond (eqb st.el 0) (Err refusal.Undefined) a)))
     (from-el1 st g _ _ _))
 
 -- 003's call
-runs-003 : (st : State) (nxs : Bool) (rt : ℕ) → Runs (scope_of st (op003 nxs rt) EL10 true nxs) ≡ ripas2 st nxs
+runs-003 : (st : State) (nxs : Bool) (rt : ℕ) → Ok (scope_of st (op003 nxs rt) EL10 true nxs) ≡ ripas2 st nxs
 unfolding scope_of security_in vmid_in reached_of reaches
 runs-003 st nxs rt = rw (enabled-is st, security-is st) refl
 
@@ -144,13 +146,13 @@ unfolding access_of is_barred access_stage2
 page-003 st good-st nxs rt even =
     first-lines (not st.features.d128) (nxs && not st.features.xs) (eqb st.el 0) (is_odd_pair (op003 nxs rt)) _ even
     ∙ rw (← runs-003 st nxs rt)
-    (ap (λ (a : Access). cond (not st.features.d128) Undefined (cond (nxs && not st.features.xs) Undefined (cond (eqb st.el 0) Undefined a)))
+    (ap (λ (a : Result Scope Refusal). cond (not st.features.d128) (Err refusal.Undefined) (cond (nxs && not st.features.xs) (Err refusal.Undefined) (cond (eqb st.el 0) (Err refusal.Undefined) a)))
     (from-el1 st (good st good-st) _ _ _))
 
 -- below EL3, level by level
-below-el3 : (el : ℕ) (run : Access) →
-    cond (eqb el 0) Undefined (cond (ltb el 3) Undefined run)
-    ≡ cond (eqb el 0) Undefined (cond (eqb el 1) Undefined (cond (eqb el 2) Undefined run))
+below-el3 : (el : ℕ) (run : Result Scope Refusal) →
+    cond (eqb el 0) (Err refusal.Undefined) (cond (ltb el 3) (Err refusal.Undefined) run)
+    ≡ cond (eqb el 0) (Err refusal.Undefined) (cond (eqb el 1) (Err refusal.Undefined) (cond (eqb el 2) (Err refusal.Undefined) run))
 below-el3 zero run = refl
 below-el3 (suc zero) run = refl
 below-el3 (suc (suc zero)) run = refl
@@ -160,7 +162,7 @@ below-el3 (suc (suc (suc n))) run =
 
 -- the calls of 002 and 004, with one operation or the other
 runs-el3 : (st : State) (nxs tlbip : Bool) (rt : ℕ) →
-    Runs (scope_of st (record { name = RVALE3; share = Outer; nxs = nxs; tlbip = tlbip; rt = rt }) EL3 false nxs) ≡ rva3 st nxs
+    Ok (scope_of st (record { name = RVALE3; share = Outer; nxs = nxs; tlbip = tlbip; rt = rt }) EL3 false nxs) ≡ rva3 st nxs
 unfolding scope_of security_in vmid_in reached_of reaches
 runs-el3 st nxs tlbip rt = refl
 
@@ -170,7 +172,7 @@ unfolding access_of is_barred access_e3
 page-002 st nxs rt even =
     first-lines (not st.features.d128) (nxs && not st.features.xs) (eqb st.el 0) (is_odd_pair (op002 nxs rt)) _ even
     ∙ rw (← runs-el3 st nxs true rt)
-    (ap (λ (a : Access). cond (not st.features.d128) Undefined (cond (nxs && not st.features.xs) Undefined a))
+    (ap (λ (a : Result Scope Refusal). cond (not st.features.d128) (Err refusal.Undefined) (cond (nxs && not st.features.xs) (Err refusal.Undefined) a))
     (below-el3 st.el _))
 
 -- TLBI RVALE3OS and TLBI RVALE3OSNXS
@@ -178,11 +180,11 @@ pub page-004 : (st : State) → bad_state st ≡ false → (nxs : Bool) (rt : �
 unfolding access_of is_barred access_e3
 page-004 st good-st nxs rt =
     let x : Bool = nxs && not st.features.xs in
-    ap (λ (b : Bool). cond (b || x || eqb st.el 0 || false) Undefined (access_e3 st (op004 nxs rt)))
+    ap (λ (b : Bool). cond (b || x || eqb st.el 0 || false) (Err refusal.Undefined) (access_e3 st (op004 nxs rt)))
     (both st.features.tlbirange st.features.tlbios)
     ∙ first-lines (not (st.features.tlbirange && st.features.tlbios)) x (eqb st.el 0) false _ refl
     ∙ rw (valid-el3 st (good st good-st), ← runs-el3 st nxs false rt)
-    (ap (λ (a : Access). cond (not (st.features.tlbirange && st.features.tlbios)) Undefined (cond x Undefined a))
+    (ap (λ (a : Result Scope Refusal). cond (not (st.features.tlbirange && st.features.tlbios)) (Err refusal.Undefined) (cond x (Err refusal.Undefined) a))
     (below-el3 st.el _))
   where
     both : (a b : Bool) → (not a || not b) ≡ not (a && b)
@@ -191,15 +193,15 @@ page-004 st good-st nxs rt =
 
 -- 001's calls, where the regime is EL2&0 if h
 runs-001 : (st : State) (nxs : Bool) (rt : ℕ) (h x : Bool) →
-    Runs (scope_of st (op001 nxs rt) (cond h EL20 EL10) false x) ≡ cond h (rvaa20 st x) (rvaa10 st x)
+    Ok (scope_of st (op001 nxs rt) (cond h EL20 EL10) false x) ≡ cond h (rvaa20 st x) (rvaa10 st x)
 unfolding scope_of security_in vmid_in reached_of reaches
 runs-001 st nxs rt true x = rw (security-is st) refl
 runs-001 st nxs rt false x = rw (enabled-is st, security-is st) refl
 
 -- the lines of 001 on what is absent, and on EL0
-first-lines-001 : (range xs el0 : Bool) (a : Access) →
-    cond ((not range || false) || xs || el0 || false) Undefined a
-    ≡ cond (not range) Undefined (cond xs Undefined (cond el0 Undefined a))
+first-lines-001 : (range xs el0 : Bool) (a : Result Scope Refusal) →
+    cond ((not range || false) || xs || el0 || false) (Err refusal.Undefined) a
+    ≡ cond (not range) (Err refusal.Undefined) (cond xs (Err refusal.Undefined) (cond el0 (Err refusal.Undefined) a))
 first-lines-001 true true el0 a = refl
 first-lines-001 true false true a = refl
 first-lines-001 true false false a = refl
@@ -215,7 +217,7 @@ turned true false true false = refl
 turned true false false clear = refl
 
 -- the lines on traps at EL1, of the plain name and of the NXS one
-traps-plain : (on ttlb ttlbis ttlbos fgt en flag : Bool) (t a : Access) →
+traps-plain : (on ttlb ttlbis ttlbos fgt en flag : Bool) (t a : Result Scope Refusal) →
     cond (on && (ttlb || (ttlbis && true) || (ttlbos && false) || (fgt && en && flag && true))) t a
     ≡ cond (on && ttlb) t (cond (on && ttlbis) t (cond (on && fgt && en && flag) t a))
 traps-plain false ttlb ttlbis ttlbos fgt en flag t a = refl
@@ -224,7 +226,7 @@ traps-plain true false true ttlbos fgt en flag t a = refl
 traps-plain true false false true fgt en flag t a = simp (and-true (fgt && en && flag))
 traps-plain true false false false fgt en flag t a = simp (and-true (fgt && en && flag))
 
-traps-nxs : (on ttlb ttlbis ttlbos fgt en flag hcx clear : Bool) (t a : Access) →
+traps-nxs : (on ttlb ttlbis ttlbos fgt en flag hcx clear : Bool) (t a : Result Scope Refusal) →
     cond (on && (ttlb || (ttlbis && true) || (ttlbos && false) || (fgt && en && flag && (hcx && clear)))) t a
     ≡ cond (on && ttlb) t (cond (on && ttlbis) t (cond (on && fgt && en && hcx && clear && flag) t a))
 traps-nxs false ttlb ttlbis ttlbos fgt en flag hcx clear t a = refl
@@ -253,7 +255,7 @@ counted true e2h tge h = refl
 counted false e2h tge h = sym h
 
 -- at EL2 and EL3, where 01 does not overrule, E2H and TGE are what they count as
-host : (el : ℕ) (on e2h tge : Bool) → el ≤ 3 → (el ≡ 2 → on ≡ true) → (eqb el 3 && not on && (e2h && tge)) ≡ false → (u v a b : Access) →
+host : (el : ℕ) (on e2h tge : Bool) → el ≤ 3 → (el ≡ 2 → on ≡ true) → (eqb el 3 && not on && (e2h && tge)) ≡ false → (u v a b : Result Scope Refusal) →
     cond (eqb el 0) u (cond (eqb el 1) v (cond ((on && e2h) && (on && tge)) a b))
     ≡ cond (eqb el 0) u (cond (eqb el 1) v (cond (eqb el 2) (cond (e2h && tge) a b) (cond (e2h && tge) a b)))
 host zero on e2h tge l two h u v a b = refl
@@ -264,23 +266,23 @@ host (suc (suc (suc (suc n)))) on e2h tge l two h u v a b = absurd (omega arith)
 
 -- the lines of 001 at EL1, of the plain name and of the NXS one
 plain-el1 : (st : State) (rt : ℕ) →
-    cond (is_trapped st (op001 false rt)) (Trapped 0x18) (Runs (scope_of st (op001 false rt) EL10 false (acts_nxs st (op001 false rt))))
-    ≡ cond (page_el2_enabled st && st.hcr.ttlb) (Trapped 0x18)
-    (cond (page_el2_enabled st && st.hcr.ttlbis) (Trapped 0x18)
+    cond (is_trapped st (op001 false rt)) (Err (refusal.Trapped 0x18)) (Ok (scope_of st (op001 false rt) EL10 false (acts_nxs st (op001 false rt))))
+    ≡ cond (page_el2_enabled st && st.hcr.ttlb) (Err (refusal.Trapped 0x18))
+    (cond (page_el2_enabled st && st.hcr.ttlbis) (Err (refusal.Trapped 0x18))
     (cond
     (page_el2_enabled st && st.features.fgt && (not st.present.el3 || st.scr.fgten) && st.traps.rvaae1.inner)
-    (Trapped 0x18)
+    (Err (refusal.Trapped 0x18))
     (cond (st.features.xs && st.features.hcx && page_hcrx_enabled st && st.hcrx.fnxs) (rvaa10 st true) (rvaa10 st false))))
 unfolding is_trapped
 plain-el1 st rt =
     rw (enabled-is st, runs-001 st false rt false (acts_nxs st (op001 false rt)), live-is st, fnxs-line st.features.xs st.features.hcx (cond (st.present.el3 && not st.scr.hxen) false (page_el2_enabled st)) st.hcrx.fnxs)
-    (traps-plain (page_el2_enabled st) st.hcr.ttlb st.hcr.ttlbis st.hcr.ttlbos st.features.fgt (not st.present.el3 || st.scr.fgten) st.traps.rvaae1.inner (Trapped 0x18) _
+    (traps-plain (page_el2_enabled st) st.hcr.ttlb st.hcr.ttlbis st.hcr.ttlbos st.features.fgt (not st.present.el3 || st.scr.fgten) st.traps.rvaae1.inner (Err (refusal.Trapped 0x18)) _
     ∙ rw (runs-either st (st.features.xs && st.features.hcx && page_hcrx_enabled st && st.hcrx.fnxs)) refl)
 
 nxs-el1 : (st : State) (rt : ℕ) →
-    cond (is_trapped st (op001 true rt)) (Trapped 0x18) (Runs (scope_of st (op001 true rt) EL10 false true))
-    ≡ cond (page_el2_enabled st && st.hcr.ttlb) (Trapped 0x18)
-    (cond (page_el2_enabled st && st.hcr.ttlbis) (Trapped 0x18)
+    cond (is_trapped st (op001 true rt)) (Err (refusal.Trapped 0x18)) (Ok (scope_of st (op001 true rt) EL10 false true))
+    ≡ cond (page_el2_enabled st && st.hcr.ttlb) (Err (refusal.Trapped 0x18))
+    (cond (page_el2_enabled st && st.hcr.ttlbis) (Err (refusal.Trapped 0x18))
     (cond
     (page_el2_enabled st
     && st.features.fgt
@@ -288,12 +290,12 @@ nxs-el1 : (st : State) (rt : ℕ) →
     && st.features.hcx
     && (not (page_hcrx_enabled st) || not st.hcrx.fgtnxs)
     && st.traps.rvaae1.inner)
-    (Trapped 0x18)
+    (Err (refusal.Trapped 0x18))
     (rvaa10 st true)))
 unfolding is_trapped
 nxs-el1 st rt =
     rw (enabled-is st, runs-001 st true rt false true, live-is st)
-    (traps-nxs (page_el2_enabled st) st.hcr.ttlb st.hcr.ttlbis st.hcr.ttlbos st.features.fgt (not st.present.el3 || st.scr.fgten) st.traps.rvaae1.inner st.features.hcx (not (page_hcrx_enabled st) || not st.hcrx.fgtnxs) (Trapped 0x18) (rvaa10 st true))
+    (traps-nxs (page_el2_enabled st) st.hcr.ttlb st.hcr.ttlbis st.hcr.ttlbos st.features.fgt (not st.present.el3 || st.scr.fgten) st.traps.rvaae1.inner st.features.hcx (not (page_hcrx_enabled st) || not st.hcrx.fgtnxs) (Err (refusal.Trapped 0x18)) (rvaa10 st true))
 
 -- TLBI RVAAE1IS
 pub page-001 : (st : State) → bad_state st ≡ false → (rt : ℕ) → is_overruled st ≡ false → access_of st (op001 false rt) ≡ page001 st
@@ -304,7 +306,7 @@ page-001 st good-st rt agreed =
     let op = op001 false rt in
     first-lines-001 range false (eqb st.el 0) (access_e1 st op)
     ∙ rw (runs-001 st false rt (e2h_of st && tge_of st) false, plain-el1 st rt)
-    (ap (cond (not range) Undefined) (host st.el (el2_enabled st) st.hcr.e2h st.hcr.tge g.level g.at_el2 agreed _ _ _ _))
+    (ap (cond (not range) (Err refusal.Undefined)) (host st.el (el2_enabled st) st.hcr.e2h st.hcr.tge g.level g.at_el2 agreed _ _ _ _))
 
 -- TLBI RVAAE1ISNXS
 pub page-001-nxs : (st : State) → bad_state st ≡ false → (rt : ℕ) → is_overruled st ≡ false → access_of st (op001 true rt) ≡ page001nxs st
@@ -316,7 +318,7 @@ page-001-nxs st good-st rt agreed =
     let op = op001 true rt in
     first-lines-001 range (not xs) (eqb st.el 0) (access_e1 st op)
     ∙ rw (runs-001 st true rt (e2h_of st && tge_of st) true, nxs-el1 st rt)
-    (ap (λ (a : Access). cond (not range) Undefined (cond (not xs) Undefined a))
+    (ap (λ (a : Result Scope Refusal). cond (not range) (Err refusal.Undefined) (cond (not xs) (Err refusal.Undefined) a))
     (host st.el (el2_enabled st) st.hcr.e2h st.hcr.tge g.level g.at_el2 agreed _ _ _ _))
 
 rule-overruled : (st : State) (nxs : Bool) (rt : ℕ) → st.el ≡ 3 → el2_enabled st ≡ false → is_barred st (op001 nxs rt) ≡ false →
@@ -364,7 +366,7 @@ pair-bad st rme nse ns =
 
 pub page-000-overruled : (st : State) (nxs : Bool) → st.el ≡ 3 → st.features.d128 ≡ true → (nxs && not st.features.xs) ≡ false →
     page_el2_enabled st ≡ true → st.features.rme ≡ true → st.scr.nse ≡ true → st.scr.ns ≡ false →
-    (bad_state st ≡ true) × (page000 st nxs ≡ NoEffect)
+    (bad_state st ≡ true) × (page000 st nxs ≡ Err refusal.NoEffect)
 page-000-overruled st nxs el d128 xs on rme nse ns = (pair-bad st rme nse ns, rw (d128, xs, el, on, rme, nse, ns) refl)
 
 pub page-004-overruled : (st : State) (nxs : Bool) → st.el ≡ 3 → st.present.el3 ≡ true → st.features.tlbirange ≡ true →
@@ -373,6 +375,6 @@ pub page-004-overruled : (st : State) (nxs : Bool) → st.el ≡ 3 → st.presen
 page-004-overruled st nxs el three range os xs rme nse ns = (pair-bad st rme nse ns, simp (range, os, xs, el, rme, three))
 
 -- the pages say nothing of an odd Rt; the rule does, before all else
-pub odd-undefined : (st : State) (op : Operation) → is_odd_pair op ≡ true → access_of st op ≡ Undefined
+pub odd-undefined : (st : State) (op : Operation) → is_odd_pair op ≡ true → access_of st op ≡ Err refusal.Undefined
 unfolding access_of is_barred
 odd-undefined st op odd = rw odd (simp or-true)

@@ -1,4 +1,5 @@
 -- Operands computed: the ranges of m1 to m8, and corners of fields, bases, units, hints, lengths and answers 6 and 7.
+use Rattle.std.specs.Prelude.{Option, Some, None, Result, Ok, Err}
 use Prim.Native.Nat.{ℕ, ◌+◌, ◌*◌, ◌-◌, ◌^◌}
 use mathlib.Core.Bool.{true, false}
 use mathlib.Core.List.{List, [], ◌∷◌}
@@ -6,7 +7,7 @@ use mathlib.Core.Path.{◌≡◌, refl}
 use lib.ListN.{take, drop}
 use Rattle.machine.proofs.Sample.{two, three, NS, NSE, EEL2, RME, SEL2, E2H, TGE, no_lpa2, at, state_on, three-processors, host_with_ds}
 use Rattle.machine.specs.Access.{is_barred, is_trapped, scope_of, access_e1, access_e2, access_stage2, access_e3, access_of, is_unit_64k}
-use Rattle.machine.specs.Answer.{read_number, read_fields, written_number, written_xt, written_xt2, ranged_number}
+use Rattle.machine.specs.Answer.{refusal_number, number_of, read_fields, written_xt, written_xt2}
 use Rattle.machine.specs.Asked.{form_of, told_of, asked_of}
 use Rattle.machine.specs.Operand.{address_of, hint_of, operand_of, field_of, is_shown, is_writable, xt_of, xt2_of, words_of}
 use Rattle.machine.specs.Range.{length_of, range_of, tlbi_exponent, tlbip_exponent, is_unpredictable, ranged_of}
@@ -15,33 +16,26 @@ use Rattle.machine.specs.State.{security_of, security_in, el2_enabled, vmid_in, 
 use Rattle.machine.specs.Word.{row_of, read_of}
 use Rattle.machine.specs.declared.operand.Form.{Form}
 use Rattle.machine.specs.declared.operand.Form.TheVariants.{TwoRangesAsid, TwoRanges, OneRange, Stage2Ns, Stage2NoNs}
-use Rattle.machine.specs.declared.operand.OperandRead.{OperandRead}
-use Rattle.machine.specs.declared.operand.OperandWritten.{OperandWritten}
-use Rattle.machine.specs.declared.operand.Ranged.{Ranged}
-use Rattle.machine.specs.declared.operand.Ranged.TheVariants.{Covers, NoGranule, Unpredictable}
 use Rattle.machine.specs.declared.operand.Told.{Told}
-use Rattle.machine.specs.declared.operation.Decoded.{Decoded}
-use Rattle.machine.specs.declared.operation.Decoded.TheVariants.{Known, Unknown}
 use Rattle.machine.specs.declared.operation.Operation.{Operation}
 use Rattle.machine.specs.declared.processor.State.{State}
-use Rattle.machine.specs.declared.scope.Access.{Access}
-use Rattle.machine.specs.declared.scope.Access.TheVariants.{Undefined, Trapped, NoEffect, Runs}
+use Rattle.machine.specs.declared.refusal.Refusal.{Refusal}
+use Rattle.machine.specs.declared.operand.Operand.{Operand}
+use Rattle.machine.specs.declared.operand.Range.{Range}
+use Rattle.machine.specs.declared.scope.Scope.{Scope}
 
 -- a range, as answer 0, first and last address, TTL, ASID and NS; or an answer
-abbrev shown : Ranged → List ℕ
-shown (Covers o r) = ranged_number (Covers o r) ∷ r.first ∷ r.last ∷ o.ttl ∷ o.asid ∷ o.ns ∷ []
-shown NoGranule = ranged_number NoGranule ∷ []
-shown Unpredictable = ranged_number Unpredictable ∷ []
+abbrev shown : Result (Operand × Range) Refusal → List ℕ
+shown (Ok (o, r)) = 0 ∷ r.first ∷ r.last ∷ o.ttl ∷ o.asid ∷ o.ns ∷ []
+shown (Err r) = refusal_number r ∷ []
 
-abbrev asked_by : State → Operation → Access → ℕ → ℕ → List ℕ
-asked_by st op (Runs s) xt xt2 = shown (asked_of st op s xt xt2)
-asked_by st op Undefined xt xt2 = 3 ∷ []
-asked_by st op (Trapped v) xt xt2 = 4 ∷ []
-asked_by st op NoEffect xt xt2 = 5 ∷ []
+abbrev asked_by : State → Operation → Result Scope Refusal → ℕ → ℕ → List ℕ
+asked_by st op (Ok s) xt xt2 = shown (asked_of st op s xt xt2)
+asked_by st op (Err r) xt xt2 = refusal_number r ∷ []
 
-abbrev asked : State → Decoded → ℕ → ℕ → List ℕ
-asked st (Known op) xt xt2 = asked_by st op (access_of st op) xt xt2
-asked st Unknown xt xt2 = 1 ∷ []
+abbrev asked : State → Option Operation → ℕ → ℕ → List ℕ
+asked st (Some op) xt xt2 = asked_by st op (access_of st op) xt xt2
+asked st None xt xt2 = 1 ∷ []
 
 -- RVAAE1IS run from EL1, without LPA2, and with LPA2 and DS of EL1
 abbrev plain : ℕ → List ℕ
@@ -83,9 +77,9 @@ abbrev xt : ℕ → ℕ → ℕ → ℕ → ℕ → ℕ → ℕ
 xt top tg scale num ttl low = ((((top * 4 + tg) * 4 + scale) * 32 + num) * 4 + ttl) * 2 ^ 37 + low
 
 -- what the reader gives: its answer and the fields
-abbrev read : OperandRead → List ℕ
+abbrev read : Result Operand Refusal → List ℕ
 read r =
-    read_number r
+    number_of r
     ∷ (read_fields r).asid
     ∷ (read_fields r).ns
     ∷ (read_fields r).tg
@@ -186,13 +180,13 @@ lengths = (refl, refl, refl, refl, refl, refl, refl, refl, refl, refl)
 -- the answers at a multiple of 2^k, and at half of it, of an operand with TG and TTL: base fields, in units of the granule or of 4 KiB
 abbrev tlbi_at : Told → ℕ → ℕ → ℕ → ℕ × ℕ
 tlbi_at t tg ttl k = (
-  ranged_number (ranged_of t (xt 0 tg 0 0 ttl (2 ^ (k - (10 + 2 * tg)))) 0),
-  ranged_number (ranged_of t (xt 0 tg 0 0 ttl (2 ^ (k - (11 + 2 * tg)))) 0),
+  number_of (ranged_of t (xt 0 tg 0 0 ttl (2 ^ (k - (10 + 2 * tg)))) 0),
+  number_of (ranged_of t (xt 0 tg 0 0 ttl (2 ^ (k - (11 + 2 * tg)))) 0),
 )
 
 abbrev tlbip_at : Told → ℕ → ℕ → ℕ → ℕ × ℕ
 tlbip_at t tg ttl k =
-    (ranged_number (ranged_of t (xt 0 tg 0 0 ttl 0) (2 ^ (k - 12))), ranged_number (ranged_of t (xt 0 tg 0 0 ttl 0) (2 ^ (k - 13))))
+    (number_of (ranged_of t (xt 0 tg 0 0 ttl 0) (2 ^ (k - 12))), number_of (ranged_of t (xt 0 tg 0 0 ttl 0) (2 ^ (k - 13))))
 
 -- "2^30 (4K, TTL 01), 2^21 (4K, 10), 2^25 (16K, 10), 2^42 (64K, 01), 2^29 (64K, 10)", and no other; the 128-bit spans, where TTL 11 is never 7;
 -- 16K with TTL 01
@@ -219,16 +213,16 @@ pub multiples :
     × (tlbip_at (tlbip TwoRanges) 3 3 13 ≡ (0, 0))
     × (tlbip_at (tlbip TwoRanges) 2 1 15 ≡ (0, 0))
     × (tlbip_at (tlbip TwoRanges) 1 0 13 ≡ (0, 0))
-    × (ranged_number (ranged_of (unit (tlbi TwoRanges)) (xt 0 1 0 0 2 (2 ^ 5)) 0) ≡ 0)
-    × (ranged_number (ranged_of (unit (tlbi TwoRanges)) (xt 0 1 0 0 2 (2 ^ 4)) 0) ≡ 7)
-    × (ranged_number (ranged_of (tlbi Stage2NoNs) (xt 0 1 0 0 2 1) 0) ≡ 7)
-    × (ranged_number (ranged_of (tlbip OneRange) (xt 0 1 0 0 2 0) 1) ≡ 7)
+    × (number_of (ranged_of (unit (tlbi TwoRanges)) (xt 0 1 0 0 2 (2 ^ 5)) 0) ≡ 0)
+    × (number_of (ranged_of (unit (tlbi TwoRanges)) (xt 0 1 0 0 2 (2 ^ 4)) 0) ≡ 7)
+    × (number_of (ranged_of (tlbi Stage2NoNs) (xt 0 1 0 0 2 1) 0) ≡ 7)
+    × (number_of (ranged_of (tlbip OneRange) (xt 0 1 0 0 2 0) 1) ≡ 7)
 unfolding ranged_of operand_of address_of hint_of range_of length_of is_unpredictable tlbi_exponent tlbip_exponent exponent_of exponent_at height_of
 multiples = (refl, refl, refl, refl, refl, refl, refl, refl, refl, refl, refl, refl, refl, refl, refl, refl, refl, refl, refl, refl, refl, refl, refl, refl, refl, refl)
 
 -- what the writer gives: its answer, Xt and Xt2
-abbrev written : OperandWritten → List ℕ
-written w = written_number w ∷ written_xt w ∷ written_xt2 w ∷ []
+abbrev written : Result (ℕ × ℕ) Refusal → List ℕ
+written w = number_of w ∷ written_xt w ∷ written_xt2 w ∷ []
 
 abbrev write : Told → ℕ → ℕ → ℕ → ℕ → ℕ → ℕ → ℕ → List ℕ
 write t asid ns tg scale num ttl base =

@@ -1,4 +1,5 @@
 -- The access rules computed: m9 and m10, in one state and in every state of which they speak, and corners of the rules.
+use Rattle.std.specs.Prelude.{Option, Some, None, Result, Ok, Err}
 use Prim.Native.Nat.{ℕ, ◌+◌}
 use mathlib.Core.Bool.{Bool, true, false}
 use mathlib.Core.List.{[], ◌∷◌}
@@ -8,53 +9,51 @@ use Rattle.laws.specs.Every.{every}
 use Rattle.laws.specs.Mask.{mask_from}
 use Rattle.machine.proofs.Sample.{two, three, NS, NSE, EEL2, FGTEn, HXEn, E2H, TGE, TTLB, TTLBIS, TTLBOS, NV, FnXS, FGTnXS, flagged, RME, SEL2, no_range, no_os, no_d128, no_xs, no_fgt, no_hcx, no_lpa2, at, boarded, host_with_ds}
 use Rattle.machine.specs.Access.{is_barred, is_trapped, reaches, reached_of, scope_of, access_e1, access_e2, access_stage2, access_e3, access_of, is_unit_64k, trap_flag}
-use Rattle.machine.specs.Answer.{access_number, access_value}
+use Rattle.machine.specs.Answer.{number_of, trap_of}
 use Rattle.machine.specs.Pages.{op003}
 use Rattle.machine.specs.State.{security_of, security_in, el2_enabled, vmid_in, hcrx_live, domains_agree, bad_board, bad_fields, bad_state}
 use Rattle.machine.specs.Word.{row_of, read_of}
-use Rattle.machine.specs.declared.operation.Decoded.TheVariants.{Known, Unknown}
-use Rattle.machine.specs.declared.operation.Decoded.{Decoded}
 use Rattle.machine.specs.declared.operation.Name.TheVariants.{RVAE1, RVAAE1, RVALE1, RVAALE1}
 use Rattle.machine.specs.declared.operation.Share.TheVariants.{Local, Inner, Outer}
 use Rattle.machine.specs.declared.processor.Flags.{Flags}
 use Rattle.machine.specs.declared.processor.State.{State}
 use Rattle.machine.specs.declared.processor.Traps.{Traps}
-use Rattle.machine.specs.declared.scope.Access.TheVariants.{Undefined, Trapped, NoEffect, Runs}
-use Rattle.machine.specs.declared.scope.Access.{Access}
 use Rattle.machine.specs.declared.scope.Regime.TheVariants.{EL10, EL20, EL2, EL3}
 use Rattle.machine.specs.declared.scope.Regime.{Regime}
 use Rattle.machine.specs.declared.scope.Security.TheVariants.{Secure, NonSecure, Realm, Root}
 use Rattle.machine.specs.declared.scope.Security.{Security}
+use Rattle.machine.specs.declared.refusal.Refusal.{Refusal}
+use Rattle.machine.specs.declared.refusal.Refusal.TheVariants as refusal
+use Rattle.machine.specs.declared.scope.Scope.{Scope}
+use Rattle.machine.specs.declared.operation.Operation.{Operation}
 
 -- a word's answer: its number and its value
-abbrev answer : Decoded → State → ℕ × ℕ
-answer (Known op) st = (access_number (access_of st op), access_value (access_of st op))
-answer Unknown st = (1, 0)
+abbrev answer : Option Operation → State → ℕ × ℕ
+answer (Some op) st = (number_of (access_of st op), trap_of (access_of st op))
+answer None st = (1, 0)
 
 -- what a word runs on: regime, security state, VMID, and whether it acts as NXS
-abbrev ran_on : Access → Regime × Security × ℕ × Bool
-ran_on (Runs s) = (s.regime, s.security, s.vmid, s.nxs)
-ran_on Undefined = (EL10, Root, 0, false)
-ran_on (Trapped v) = (EL10, Root, 0, false)
-ran_on NoEffect = (EL10, Root, 0, false)
+abbrev ran_on : Result Scope Refusal → Regime × Security × ℕ × Bool
+ran_on (Ok s) = (s.regime, s.security, s.vmid, s.nxs)
+ran_on (Err r) = (EL10, Root, 0, false)
 
-abbrev ran : Decoded → State → Regime × Security × ℕ × Bool
-ran (Known op) st = ran_on (access_of st op)
-ran Unknown st = ran_on Undefined
+abbrev ran : Option Operation → State → Regime × Security × ℕ × Bool
+ran (Some op) st = ran_on (access_of st op)
+ran None st = ran_on (Err refusal.Undefined)
 
 -- "m9 D54C80C0 with D128 at EL1, EL2 enabled, NV: 4, 0x14.", by the access rules in every such state
 pub m9 : (st : State) → st.features.d128 ≡ true → st.el ≡ 1 → el2_enabled st ≡ true → st.hcr.nv ≡ true →
-    (read_of 0xD54C80C0 ≡ Known (op003 false 0))
-    × (access_number (access_of st (op003 false 0)) ≡ 4)
-    × (access_value (access_of st (op003 false 0)) ≡ 0x14)
+    (read_of 0xD54C80C0 ≡ Some (op003 false 0))
+    × (number_of (access_of st (op003 false 0)) ≡ 4)
+    × (trap_of (access_of st (op003 false 0)) ≡ 0x14)
 unfolding read_of row_of access_of is_barred access_stage2
 m9 st d128 el on nv = (refl, simp (d128, el, on, nv), simp (d128, el, on, nv))
 
 -- "m10 the same at EL3, EL2 disabled: 5."
 pub m10 : (st : State) → st.features.d128 ≡ true → st.el ≡ 3 → el2_enabled st ≡ false →
-    (read_of 0xD54C80C0 ≡ Known (op003 false 0))
-    × (access_number (access_of st (op003 false 0)) ≡ 5)
-    × (access_value (access_of st (op003 false 0)) ≡ 0)
+    (read_of 0xD54C80C0 ≡ Some (op003 false 0))
+    × (number_of (access_of st (op003 false 0)) ≡ 5)
+    × (trap_of (access_of st (op003 false 0)) ≡ 0)
 unfolding read_of row_of access_of is_barred access_stage2
 m10 st d128 el off = (refl, simp (d128, el, off), simp (d128, el, off))
 
@@ -144,15 +143,13 @@ unfolding bad_state bad_fields bad_board domains_agree el2_enabled security_of e
 bad = (refl, refl, refl, refl, refl, refl, refl, refl, refl, refl, refl, refl, refl, refl, refl, refl, refl)
 
 -- the processors reached, whether an ASID applies, whether the name has L, and whether it is stage 2
-abbrev who_on : Access → ℕ × Bool × Bool × Bool
-who_on (Runs s) = (s.reached, s.asid, s.last, s.stage2)
-who_on Undefined = (0, false, false, false)
-who_on (Trapped v) = (0, false, false, false)
-who_on NoEffect = (0, false, false, false)
+abbrev who_on : Result Scope Refusal → ℕ × Bool × Bool × Bool
+who_on (Ok s) = (s.reached, s.asid, s.last, s.stage2)
+who_on (Err r) = (0, false, false, false)
 
-abbrev who : Decoded → State → ℕ × Bool × Bool × Bool
-who (Known op) st = who_on (access_of st op)
-who Unknown st = who_on Undefined
+abbrev who : Option Operation → State → ℕ × Bool × Bool × Bool
+who (Some op) st = who_on (access_of st op)
+who None st = who_on (Err refusal.Undefined)
 
 -- at EL3 with EL2 enabled, and the same with {E2H, TGE} 11
 abbrev high : State

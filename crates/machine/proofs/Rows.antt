@@ -1,4 +1,5 @@
 -- The row of a name's numbers is that name, and the numbers of a row's name are the row's.
+use Rattle.std.specs.Prelude.{Option, Some, None}
 use Prim.Native.Nat.{ℕ, ◌+◌, ◌*◌, ◌/◌, ◌%◌, ◌<◌}
 use mathlib.Core.Bool.{Bool, true, ◌&&◌}
 use mathlib.Core.Path.{◌≡◌, refl}
@@ -11,8 +12,6 @@ use Rattle.laws.specs.Every.{every}
 use Rattle.machine.specs.Word.{family_of, op1_of, crm_of, op2_of, row_of}
 use Rattle.machine.specs.declared.operation.Name.TheVariants.{RVAE1, RVAAE1, RVALE1, RVAALE1, RVAE2, RVALE2, RVAE3, RVALE3, RIPAS2E1, RIPAS2LE1}
 use Rattle.machine.specs.declared.operation.Name.{Name}
-use Rattle.machine.specs.declared.operation.Row.TheVariants.{Named, Unnamed}
-use Rattle.machine.specs.declared.operation.Row.{Row}
 use Rattle.machine.specs.declared.operation.Share.TheVariants.{Local, Inner, Outer}
 use Rattle.machine.specs.declared.operation.Share.{Share}
 
@@ -25,7 +24,7 @@ by-share P l i o Outer = o
 -- op1, CRm and op2 of a name and a shareability fit their places, and their row is that name
 abbrev Placed : Name → Share → Type 0
 Placed n s =
-    (row_of (op1_of (family_of n)) (crm_of (family_of n) s) (op2_of n s) ≡ Named n s)
+    (row_of (op1_of (family_of n)) (crm_of (family_of n) s) (op2_of n s) ≡ Some (n, s))
     × (ltb (op1_of (family_of n)) 8 ≡ true)
     × (ltb (crm_of (family_of n) s) 16 ≡ true)
     × (ltb (op2_of n s) 8 ≡ true)
@@ -43,7 +42,7 @@ placed RVALE3 = by-share (Placed RVALE3) (refl, refl, refl, refl) (refl, refl, r
 placed RIPAS2E1 = by-share (Placed RIPAS2E1) (refl, refl, refl, refl) (refl, refl, refl, refl) (refl, refl, refl, refl)
 placed RIPAS2LE1 = by-share (Placed RIPAS2LE1) (refl, refl, refl, refl) (refl, refl, refl, refl) (refl, refl, refl, refl)
 
-pub row-of-numbers : (n : Name) (s : Share) → row_of (op1_of (family_of n)) (crm_of (family_of n) s) (op2_of n s) ≡ Named n s
+pub row-of-numbers : (n : Name) (s : Share) → row_of (op1_of (family_of n)) (crm_of (family_of n) s) (op2_of n s) ≡ Some (n, s)
 row-of-numbers n s = (placed n s).0
 
 pub op1-below : (n : Name) (s : Share) → op1_of (family_of n) < 8
@@ -56,9 +55,9 @@ pub op2-below : (n : Name) (s : Share) → op2_of n s < 8
 op2-below n s = ltb-true _ _ (placed n s).3
 
 -- a row that is named has the numbers of its name
-abbrev agrees : Row → ℕ → ℕ → ℕ → Bool
-agrees (Named n s) o m p = eqb (op1_of (family_of n)) o && (eqb (crm_of (family_of n) s) m && eqb (op2_of n s) p)
-agrees Unnamed o m p = true
+abbrev agrees : Option (Name × Share) → ℕ → ℕ → ℕ → Bool
+agrees (Some (n, s)) o m p = eqb (op1_of (family_of n)) o && (eqb (crm_of (family_of n) s) m && eqb (op2_of n s) p)
+agrees None o m p = true
 
 -- the test at op1, CRm and op2 joined into one number below 1,024
 test : ℕ → Bool
@@ -84,7 +83,7 @@ pub record Numbers (o m p : ℕ) (n : Name) (s : Share) : Type 0 where
   pub crm : crm_of (family_of n) s ≡ m
   pub op2 : op2_of n s ≡ p
 
-pub numbers-of-row : (o m p : ℕ) → o < 8 → m < 16 → p < 8 → (n : Name) (s : Share) → row_of o m p ≡ Named n s → Numbers o m p n s
+pub numbers-of-row : (o m p : ℕ) → o < 8 → m < 16 → p < 8 → (n : Name) (s : Share) → row_of o m p ≡ Some (n, s) → Numbers o m p n s
 numbers-of-row o m p ho hm hp n s h =
     let one : Bool = eqb (op1_of (family_of n)) o in
     let two : Bool = eqb (crm_of (family_of n) s) m in

@@ -1,4 +1,5 @@
 -- Reading and building are inverse to each other: a word reads as an operation exactly when that operation builds it.
+use Rattle.std.specs.Prelude.{Option, Some, None}
 use Prim.Native.Nat.{ℕ, ◌+◌, ◌*◌, ◌/◌, ◌^◌, ◌≤◌, ◌<◌}
 use mathlib.Core.Path.{◌≡◌, refl, sym, ap, ◌∙◌}
 use mathlib.Core.Bool.{Bool, true, false, cond, ◌||◌}
@@ -8,13 +9,10 @@ use lib.Dec.{eqb, ltb}
 use borrow.Author.Tests.{eqb-true, ltb-true, lt-ltb, ne_eqb}
 use Rattle.laws.proofs.Truth.{and_0, and-1}
 use Rattle.machine.specs.declared.operation.Operation.{Operation}
-use Rattle.machine.specs.declared.operation.Row.{Row}
-use Rattle.machine.specs.declared.operation.Row.TheVariants.{Named, Unnamed}
-use Rattle.machine.specs.declared.operation.Decoded.{Decoded}
-use Rattle.machine.specs.declared.operation.Decoded.TheVariants.{Known, Unknown}
-use Rattle.machine.specs.declared.operation.Built.TheVariants.{Word, Unfit}
 use Rattle.machine.specs.Word.{family_of, op1_of, crm_of, op2_of, row_of, fixed_of, is_sys, is_sysp, is_fixed, op1_in, crn_in, crm_in, op2_in, rt_in, of_row, read_of, word_of, built_of}
 use Rattle.machine.proofs.Rows.{row-of-numbers, op1-below, crm-below, op2-below, numbers-of-row}
+use Rattle.machine.specs.declared.operation.Name.{Name}
+use Rattle.machine.specs.declared.operation.Share.{Share}
 
 -- a word put together from its places, over the number f of its fixed bits
 abbrev word : ℕ → ℕ → ℕ → ℕ → ℕ → ℕ → ℕ
@@ -62,14 +60,14 @@ word-of-places true x o m n t = refl
 word-of-places false x o m n t = refl
 
 -- what an operation's word reads as
-pub built-reads : (op : Operation) → op.rt < 32 → read_of (word_of op) ≡ Known op
+pub built-reads : (op : Operation) → op.rt < 32 → read_of (word_of op) ≡ Some op
 unfolding word_of
 built-reads op h =
     let n = op.name in
     let s = op.share in
     ap read_of (word-of-places op.tlbip op.nxs (op1_of (family_of n)) (crm_of (family_of n) s) (op2_of n s) op.rt)
     ∙ read-places op.tlbip op.nxs (op1_of (family_of n)) (crm_of (family_of n) s) (op2_of n s) op.rt (op1-below n s) (crm-below n s) (op2-below n s) h
-    ∙ ap (λ (r : Row). of_row r op.nxs op.tlbip op.rt) (row-of-numbers n s)
+    ∙ ap (λ (r : Option (Name × Share)). of_row r op.nxs op.tlbip op.rt) (row-of-numbers n s)
 
 -- one place at a time, then added up: all at once is too much for `omega`
 sum : (f o c m n t u v w x y : ℕ) → f + o ≡ u → u + c ≡ v → v + m ≡ w → w + n ≡ x → x + t ≡ y → f + o + c + m + n + t ≡ y
@@ -92,16 +90,16 @@ crn-is w e true he hx h = eqb-true _ _ hx
 crn-is w true false he hx h = eqb-true _ _ he
 crn-is w false false he hx h = absurd (let z : ◌≡◌ {A = ℕ} 0 1 = cc in omega arith)
 
-taken : (b : Bool) (d : Decoded) (op : Operation) → cond b d Unknown ≡ Known op → (b ≡ true) × (d ≡ Known op)
+taken : (b : Bool) (d : Option Operation) (op : Operation) → cond b d None ≡ Some op → (b ≡ true) × (d ≡ Some op)
 taken true d op h = (refl, h)
 taken false d op h = absurd (let z : ◌≡◌ {A = ℕ} 0 1 = cc in omega arith)
 
 -- the operation of a row, put together again
-rebuilt : (w : ℕ) → is_fixed w ≡ true → (r : Row) → row_of (op1_in w) (crm_in w) (op2_in w) ≡ r → (op : Operation) →
-    of_row r (eqb (crn_in w) 9) (is_sysp w) (rt_in w) ≡ Known op → built_of op ≡ Word w
+rebuilt : (w : ℕ) → is_fixed w ≡ true → (r : Option (Name × Share)) → row_of (op1_in w) (crm_in w) (op2_in w) ≡ r → (op : Operation) →
+    of_row r (eqb (crn_in w) 9) (is_sysp w) (rt_in w) ≡ Some op → built_of op ≡ Some w
 unfolding word_of built_of
-rebuilt w f Unnamed hr op h = absurd (let z : ◌≡◌ {A = ℕ} 0 1 = cc in omega arith)
-rebuilt w f (Named n s) hr op h =
+rebuilt w f None hr op h = absurd (let z : ◌≡◌ {A = ℕ} 0 1 = cc in omega arith)
+rebuilt w f (Some (n, s)) hr op h =
     let k = numbers-of-row (op1_in w) (crm_in w) (op2_in w) (omega arith) (omega arith) (omega arith) n s hr in
     let sys : Bool = is_sys w || is_sysp w in
     let crn : Bool = eqb (crn_in w) 8 || eqb (crn_in w) 9 in
@@ -109,36 +107,36 @@ rebuilt w f (Named n s) hr op h =
     let b = crn-is w (eqb (crn_in w) 8) (eqb (crn_in w) 9) refl refl (and-1 sys crn f) in
     let l : ltb (rt_in w) 32 ≡ true = lt-ltb (rt_in w) 32 (omega arith) in
     let e : op ≡ record { name = n; share = s; nxs = eqb (crn_in w) 9; tlbip = is_sysp w; rt = rt_in w } = cc in
-    ap built_of e ∙ rw (l, k.op1, k.crm, k.op2, ← a, ← b) (ap Word (joined w))
+    ap built_of e ∙ rw (l, k.op1, k.crm, k.op2, ← a, ← b) (ap Some (joined w))
 
 -- what is read was built
-pub read-builds : (w : ℕ) (op : Operation) → read_of w ≡ Known op → built_of op ≡ Word w
+pub read-builds : (w : ℕ) (op : Operation) → read_of w ≡ Some op → built_of op ≡ Some w
 unfolding read_of
 read-builds w op h =
     let t = taken (is_fixed w) (of_row (row_of (op1_in w) (crm_in w) (op2_in w)) (eqb (crn_in w) 9) (is_sysp w) (rt_in w)) op h in
     rebuilt w t.0 (row_of (op1_in w) (crm_in w) (op2_in w)) refl op t.1
 
 -- an operation builds a word just where its Rt has a place
-pub built-word : (op : Operation) (w : ℕ) → built_of op ≡ Word w → (op.rt < 32) × (word_of op ≡ w)
+pub built-word : (op : Operation) (w : ℕ) → built_of op ≡ Some w → (op.rt < 32) × (word_of op ≡ w)
 unfolding built_of
 built-word op w h = go (ltb op.rt 32) refl h
   where
-    go : (b : Bool) → ltb op.rt 32 ≡ b → cond b (Word (word_of op)) Unfit ≡ Word w → (op.rt < 32) × (word_of op ≡ w)
+    go : (b : Bool) → ltb op.rt 32 ≡ b → cond b (Some (word_of op)) None ≡ Some w → (op.rt < 32) × (word_of op ≡ w)
     go true t g = (ltb-true _ _ t, cc)
     go false t g = absurd (let z : ◌≡◌ {A = ℕ} 0 1 = cc in omega arith)
 
 -- "a word is read exactly when some operation builds it"
-pub reads-built : (w : ℕ) (op : Operation) → (read_of w ≡ Known op) ↔ (built_of op ≡ Word w)
+pub reads-built : (w : ℕ) (op : Operation) → (read_of w ≡ Some op) ↔ (built_of op ≡ Some w)
 reads-built w op = (
   read-builds w op,
-  λ (h : built_of op ≡ Word w). sym (ap read_of (built-word op w h).1) ∙ built-reads op (built-word op w h).0,
+  λ (h : built_of op ≡ Some w). sym (ap read_of (built-word op w h).1) ∙ built-reads op (built-word op w h).0,
 )
 
 -- the Rt of what is read has a place
-pub read-rt : (w : ℕ) (op : Operation) → read_of w ≡ Known op → op.rt < 32
+pub read-rt : (w : ℕ) (op : Operation) → read_of w ≡ Some op → op.rt < 32
 read-rt w op h = (built-word op w (read-builds w op h)).0
 
 -- 2^32 or more is not one of the operations
-pub read-far : (w : ℕ) → 2 ^ 32 ≤ w → read_of w ≡ Unknown
+pub read-far : (w : ℕ) → 2 ^ 32 ≤ w → read_of w ≡ None
 unfolding read_of
 read-far w h = simp (ne_eqb (fixed_of w) 0xD5080000 (omega arith), ne_eqb (fixed_of w) 0xD5480000 (omega arith))

@@ -1,4 +1,5 @@
 -- The verdict: a list is accepted exactly when it does its work, what each refusal shows, and that there is one verdict for every input.
+use Rattle.std.specs.Prelude.{Result, Ok, Err, ⊤}
 use Prim.Native.Nat.{ℕ, zero, suc, ◌+◌, ◌*◌, ◌^◌, ◌<◌}
 use mathlib.Core.Bool.{Bool, true, false, cond, not, ◌&&◌, ◌||◌}
 use mathlib.Core.List.{List, [], ◌∷◌}
@@ -9,6 +10,7 @@ use lib.Dec.{eqb, ltb}
 use lib.IntN.{ℤ, pos, negsuc}
 use lib.ListN.{get_or}
 use borrow.Author.Tests.{eqb-true, ltb-true, ltb-false, eq-eqb, not-true}
+use Rattle.std.specs.Prelude.{Option, Some, None}
 use Rattle.laws.proofs.Slots.{slot_same, first_holds, some_at}
 use Rattle.laws.proofs.Truth.{and_0, and-1, or-0, or-1, not_so, clash}
 use Rattle.laws.specs.Slots.{slots, holds_at, count, first, some, cleared}
@@ -18,7 +20,7 @@ use Rattle.machine.proofs.Judging.{is_taken, done-list, list_done, alone-inserte
 use Rattle.machine.proofs.Spans.{by_level, span-level}
 use Rattle.machine.proofs.Tags.{legal, company-one, entry-same, zero-empty}
 use Rattle.machine.proofs.Victims.{victim, victim-legal, victim-goes, victim-sized}
-use Rattle.machine.specs.Answer.{judged_number, judged_step, judged_entry, no_entry, ran_number}
+use Rattle.machine.specs.Answer.{judged_number, judged_step, judged_entry, no_entry, number_of}
 use Rattle.machine.specs.Entry.{has_asids, is_placed, is_legal}
 use Rattle.machine.specs.Execute.{resolved_of, is_list, on_work, refuses, ran_of, run_table, executed_of, execute_table}
 use Rattle.machine.specs.Goes.{goes, drops}
@@ -30,33 +32,25 @@ use Rattle.machine.specs.Tag.{Sized, tag_of}
 use Rattle.machine.specs.Target.{is_named, is_of_company, is_of_width, is_of_granule, is_of_kind, is_of_asid, is_within, is_target, aims}
 use Rattle.machine.specs.declared.entry.Company.{Company}
 use Rattle.machine.specs.declared.entry.Entry.{Entry}
-use Rattle.machine.specs.declared.judge.Judged.{Judged}
-use Rattle.machine.specs.declared.judge.Judged.TheVariants.{Accepted, BadShape, BadState, BadTarget, Refused, Outside, Gap}
 use Rattle.machine.specs.declared.judge.Target.{Target}
 use Rattle.machine.specs.declared.processor.State.{State}
-use Rattle.machine.specs.declared.table.Inserted.TheVariants.{At}
-use Rattle.machine.specs.declared.work.Resolved.{Resolved}
 use Rattle.machine.specs.declared.work.Work.{Work}
-use Rattle.machine.specs.declared.work.Executed.TheVariants as executed
-use Rattle.machine.specs.declared.work.Resolved.TheVariants as resolved
+use Rattle.machine.specs.declared.refusal.Refusal.{Refusal}
+use Rattle.machine.specs.declared.judge.Objection.{Objection}
+use Rattle.machine.specs.declared.judge.Objection.TheVariants as objection
 
 -- Refused with 11: a step outside the company is work of another company, and there is a table in which it drops an entry of that
 record Other (st : State) (c : Company) (word xt xt2 : ℕ) : Type 0 where
   work : Work
-  resolved : resolved_of st word xt xt2 ≡ resolved.Works work
+  resolved : resolved_of st word xt xt2 ≡ Ok work
   apart : same_company work.company c ≡ false
 
 outside-work : (st : State) (c : Company) (word xt xt2 : ℕ) → is_outside st c word xt xt2 ≡ true → Other st c word xt xt2
 outside-work st c word xt xt2 = go (resolved_of st word xt xt2) refl
   where
-    go : (r : Resolved) → resolved_of st word xt xt2 ≡ r → on_work (λ w. not (same_company w.company c)) r ≡ true → Other st c word xt xt2
-    go (resolved.Works w) e h = record { work = w; resolved = e; apart = not-true (same_company w.company c) h }
-    go resolved.Unknown e h = clash h refl
-    go resolved.Undefined e h = clash h refl
-    go (resolved.Trapped v) e h = clash h refl
-    go resolved.NoEffect e h = clash h refl
-    go resolved.NoGranule e h = clash h refl
-    go resolved.Unpredictable e h = clash h refl
+    go : (r : Result Work Refusal) → resolved_of st word xt xt2 ≡ r → on_work (λ w. not (same_company w.company c)) r ≡ true → Other st c word xt xt2
+    go (Ok w) e h = record { work = w; resolved = e; apart = not-true (same_company w.company c) h }
+    go (Err r) e h = clash h refl
 
 pub record Harmed (st : State) (c : Company) (word xt xt2 : ℕ) : Type 0 where
   pub entry : Entry
@@ -64,7 +58,7 @@ pub record Harmed (st : State) (c : Company) (word xt xt2 : ℕ) : Type 0 where
   pub fits : entry.base < 2 ^ 64
   pub legal : is_legal entry ≡ true
   pub other : same_company entry.company c ≡ false
-  pub dropped : (executed_of st word xt xt2 (alone entry) ≡ executed.Dropped 1) × (execute_table st word xt xt2 (alone entry) ≡ (0 ∷ 0 ∷ 0 ∷ []))
+  pub dropped : (executed_of st word xt xt2 (alone entry) ≡ Ok 1) × (execute_table st word xt xt2 (alone entry) ≡ (0 ∷ 0 ∷ 0 ∷ []))
 
 -- and the step is one that drops the entry wherever it stands
 record Struck (st : State) (c : Company) (word xt xt2 : ℕ) : Type 0 where
@@ -91,7 +85,7 @@ outside-harms st c word xt xt2 good low h =
         fits = fits;
         legal = ok;
         other = o.apart;
-        dropped = (answer ∙ ap (λ (m : List ℕ). executed.Dropped (count (drops w) m)) l ∙ ap executed.Dropped (one here), table ∙ ap (cleared (drops w)) l ∙ gone (v.base ∷ tag_of v ∷ 0 ∷ []) here);
+        dropped = (answer ∙ ap (λ (m : List ℕ). (Ok (count (drops w) m))) l ∙ ap Ok (one here), table ∙ ap (cleared (drops w)) l ∙ gone (v.base ∷ tag_of v ∷ 0 ∷ []) here);
       };
       taken = ap (on_work (λ w. goes w v)) o.resolved ∙ going;
     }
@@ -146,36 +140,36 @@ module _ (st : State) (t : Target) (steps : List ℕ) (s : Sound st t steps) whe
       clash (ap (aims t) back ∙ a.aimed) (d.clears (alone e) shape words 0 (omega (arith, size)) after)
 
   -- Demand 3: "A list of invalidations is accepted exactly when, from every table of legal shape, it does its work and harms no other company."
-  pub accepted-exactly : st.vmid < 2 ^ 16 → (r : Judged) → Verdict st t steps r → (r ≡ Accepted) ↔ Does st t steps
-  accepted-exactly low r v = (λ (e : r ≡ Accepted). (subst (Verdict st t steps) e v).1, back r v)
+  pub accepted-exactly : st.vmid < 2 ^ 16 → (r : Result ⊤ Objection) → Verdict st t steps r → (r ≡ Ok tt) ↔ Does st t steps
+  accepted-exactly low r v = (λ (e : r ≡ Ok tt). (subst (Verdict st t steps) e v).1, back r v)
     where
-      back : (r : Judged) → Verdict st t steps r → Does st t steps → r ≡ Accepted
-      back Accepted v d = refl
-      back BadShape v d = clash s.list v
-      back BadState v d = clash v.1 s.state
-      back BadTarget v d = clash s.target v.2
-      back (Refused k) v d = clash v.1 (does-done d)
-      back (Outside k) v d = clash v.2 (does-inside low d)
-      back (Gap e) v d = absurd (does-clears e d v.3)
+      back : (r : Result ⊤ Objection) → Verdict st t steps r → Does st t steps → r ≡ Ok tt
+      back (Ok tt) v d = refl
+      back (Err objection.BadShape) v d = clash s.list v
+      back (Err objection.BadState) v d = clash v.1 s.state
+      back (Err objection.BadTarget) v d = clash s.target v.2
+      back (Err (objection.Refused k)) v d = clash v.1 (does-done d)
+      back (Err (objection.Outside k)) v d = clash v.2 (does-inside low d)
+      back (Err (objection.Gap e)) v d = absurd (does-clears e d v.3)
 
 -- an answer of number 0 is acceptance
-does-is : (st : State) (t : Target) (steps : List ℕ) (v : Judged) → judged_number v ≡ 0 → Verdict st t steps v → Does st t steps
-does-is st t steps Accepted e h = h.1
-does-is st t steps BadShape e h = absurd (let z : ◌≡◌ {A = ℕ} 13 0 = e in omega arith)
-does-is st t steps BadState e h = absurd (let z : ◌≡◌ {A = ℕ} 2 0 = e in omega arith)
-does-is st t steps BadTarget e h = absurd (let z : ◌≡◌ {A = ℕ} 8 0 = e in omega arith)
-does-is st t steps (Refused k) e h = absurd (let z : ◌≡◌ {A = ℕ} 10 0 = e in omega arith)
-does-is st t steps (Outside k) e h = absurd (let z : ◌≡◌ {A = ℕ} 11 0 = e in omega arith)
-does-is st t steps (Gap x) e h = absurd (let z : ◌≡◌ {A = ℕ} 12 0 = e in omega arith)
+does-is : (st : State) (t : Target) (steps : List ℕ) (v : Result ⊤ Objection) → judged_number v ≡ 0 → Verdict st t steps v → Does st t steps
+does-is st t steps (Ok tt) e h = h.1
+does-is st t steps (Err objection.BadShape) e h = absurd (let z : ◌≡◌ {A = ℕ} 13 0 = e in omega arith)
+does-is st t steps (Err objection.BadState) e h = absurd (let z : ◌≡◌ {A = ℕ} 2 0 = e in omega arith)
+does-is st t steps (Err objection.BadTarget) e h = absurd (let z : ◌≡◌ {A = ℕ} 8 0 = e in omega arith)
+does-is st t steps (Err (objection.Refused k)) e h = absurd (let z : ◌≡◌ {A = ℕ} 10 0 = e in omega arith)
+does-is st t steps (Err (objection.Outside k)) e h = absurd (let z : ◌≡◌ {A = ℕ} 11 0 = e in omega arith)
+does-is st t steps (Err (objection.Gap x)) e h = absurd (let z : ◌≡◌ {A = ℕ} 12 0 = e in omega arith)
 
 -- and so by its number
-pub accepted-number : (st : State) (t : Target) (steps : List ℕ) (r : Judged) → Sound st t steps → st.vmid < 2 ^ 16 → Verdict st t steps r →
+pub accepted-number : (st : State) (t : Target) (steps : List ℕ) (r : Result ⊤ Objection) → Sound st t steps → st.vmid < 2 ^ 16 → Verdict st t steps r →
     (judged_number r ≡ 0) ↔ Does st t steps
 accepted-number st t steps r s low v =
     (λ (e : judged_number r ≡ 0). does-is st t steps r e v, λ (d : Does st t steps). ap judged_number ((accepted-exactly st t steps s low r v).1 d))
 
 -- Refused with 11: there is a table in which that step drops an entry of another company.
-pub outside-shows : (st : State) (t : Target) (steps : List ℕ) (k : ℕ) → st.vmid < 2 ^ 16 → Verdict st t steps (Outside k) →
+pub outside-shows : (st : State) (t : Target) (steps : List ℕ) (k : ℕ) → st.vmid < 2 ^ 16 → Verdict st t steps (Err (objection.Outside k)) →
     (k < slots steps) × Harmed st t.company (get_or steps (3 * k) 0) (get_or steps (3 * k + 1) 0) (get_or steps (3 * k + 2) 0)
 outside-shows st t steps k low (s, done, some, at) =
     let n = ltb-true (first (is_outside st t.company) steps) (slots steps) some in
@@ -185,14 +179,14 @@ outside-shows st t steps k low (s, done, some, at) =
 
 -- Refused with 12: insert makes a table of the entry, the run from it ends as done, and the entry still stands in it.
 pub record Left (st : State) (t : Target) (steps : List ℕ) (e : Entry) : Type 0 where
-  pub inserted : inserted_of e (0 ∷ 0 ∷ 0 ∷ []) ≡ At 0
-  pub ran : ran_number (ran_of st steps (alone e)) ≡ 0
+  pub inserted : inserted_of e (0 ∷ 0 ∷ 0 ∷ []) ≡ Ok 0
+  pub ran : number_of (ran_of st steps (alone e)) ≡ 0
   pub reads : holds_at slot_reads (run_table st steps (alone e)) 0 ≡ true
   pub entry : slot_entry (run_table st steps (alone e)) 0 ≡ e
   pub output : get_or (run_table st steps (alone e)) 2 0 ≡ 0
   pub asked : Aimed t e
 
-pub gap-shows : (st : State) (t : Target) (steps : List ℕ) (e : Entry) → Verdict st t steps (Gap e) → Left st t steps e
+pub gap-shows : (st : State) (t : Target) (steps : List ℕ) (e : Entry) → Verdict st t steps (Err (objection.Gap e)) → Left st t steps e
 gap-shows st t steps e (s, done, inside, v) =
     let a = v.asked in
     let (reads, same) = alone-reads e a.sized a.legal in
@@ -206,27 +200,27 @@ gap-shows st t steps e (s, done, inside, v) =
     }
 
 -- 12 is given, after the other checks, exactly where the list does not do its work
-pub gap-number : (st : State) (t : Target) (steps : List ℕ) (r : Judged) → Sound st t steps → st.vmid < 2 ^ 16 → some (refuses st) steps ≡ false →
+pub gap-number : (st : State) (t : Target) (steps : List ℕ) (r : Result ⊤ Objection) → Sound st t steps → st.vmid < 2 ^ 16 → some (refuses st) steps ≡ false →
     some (is_outside st t.company) steps ≡ false → Verdict st t steps r → (judged_number r ≡ 12) ↔ (Does st t steps → ⊥)
 gap-number st t steps r s low done inside v = (there r v, back r v)
   where
-    there : (r : Judged) → Verdict st t steps r → judged_number r ≡ 12 → Does st t steps → ⊥
-    there Accepted v e d = let z : ◌≡◌ {A = ℕ} 0 12 = e in omega arith
-    there BadShape v e d = let z : ◌≡◌ {A = ℕ} 13 12 = e in omega arith
-    there BadState v e d = let z : ◌≡◌ {A = ℕ} 2 12 = e in omega arith
-    there BadTarget v e d = let z : ◌≡◌ {A = ℕ} 8 12 = e in omega arith
-    there (Refused k) v e d = let z : ◌≡◌ {A = ℕ} 10 12 = e in omega arith
-    there (Outside k) v e d = let z : ◌≡◌ {A = ℕ} 11 12 = e in omega arith
-    there (Gap x) v e d = does-clears st t steps s x d v.3
+    there : (r : Result ⊤ Objection) → Verdict st t steps r → judged_number r ≡ 12 → Does st t steps → ⊥
+    there (Ok tt) v e d = let z : ◌≡◌ {A = ℕ} 0 12 = e in omega arith
+    there (Err objection.BadShape) v e d = let z : ◌≡◌ {A = ℕ} 13 12 = e in omega arith
+    there (Err objection.BadState) v e d = let z : ◌≡◌ {A = ℕ} 2 12 = e in omega arith
+    there (Err objection.BadTarget) v e d = let z : ◌≡◌ {A = ℕ} 8 12 = e in omega arith
+    there (Err (objection.Refused k)) v e d = let z : ◌≡◌ {A = ℕ} 10 12 = e in omega arith
+    there (Err (objection.Outside k)) v e d = let z : ◌≡◌ {A = ℕ} 11 12 = e in omega arith
+    there (Err (objection.Gap x)) v e d = does-clears st t steps s x d v.3
 
-    back : (r : Judged) → Verdict st t steps r → (Does st t steps → ⊥) → judged_number r ≡ 12
-    back Accepted v n = absurd (n v.1)
-    back BadShape v n = clash s.list v
-    back BadState v n = clash v.1 s.state
-    back BadTarget v n = clash s.target v.2
-    back (Refused k) v n = clash v.1 done
-    back (Outside k) v n = clash v.2 inside
-    back (Gap x) v n = refl
+    back : (r : Result ⊤ Objection) → Verdict st t steps r → (Does st t steps → ⊥) → judged_number r ≡ 12
+    back (Ok tt) v n = absurd (n v.1)
+    back (Err objection.BadShape) v n = clash s.list v
+    back (Err objection.BadState) v n = clash v.1 s.state
+    back (Err objection.BadTarget) v n = clash s.target v.2
+    back (Err (objection.Refused k)) v n = clash v.1 done
+    back (Err (objection.Outside k)) v n = clash v.2 inside
+    back (Err (objection.Gap x)) v n = refl
 
 -- the kind of an entry tells whether it is a leaf, and its level
 pub kind-back : (leaf : Bool) (l : ℤ) (global : Bool) → is_level l ≡ true → is_placed leaf l global ≡ true →
@@ -359,7 +353,7 @@ survivor-one st t steps d e u v =
     let g : d.granule ≡ e.granule = eqb-true d.granule t.granule ad.granule ∙ sym (eqb-true e.granule t.granule ae.granule) in
     let f : d.leaf ≡ e.leaf = sym df ∙ ap leaf_at k ∙ ef in
     let l : d.level ≡ e.level = sym dl ∙ ap level_at k ∙ el in
-    ap (λ (x : ℕ). at d x) b ∙ entry-same e.base p c (asid t.one refl (has_asids t.company) refl) (u.global ∙ sym v.global) w g l f (u.xs ∙ sym v.xs)
+    ap (λ (x : ℕ). at d x) b ∙ entry-same e.base p c (asid t.asid refl (has_asids t.company) refl) (u.global ∙ sym v.global) w g l f (u.xs ∙ sym v.xs)
   where
     at : Entry → ℕ → Entry
     at a x = record {
@@ -375,81 +369,81 @@ survivor-one st t steps d e u v =
       base = x;
     }
 
-    least : (a b : Entry) → Survivor st t steps a → Survivor st t steps b → t.one ≡ false → has_asids t.company ≡ true → a.asid < b.asid → ⊥
+    least : (a b : Entry) → Survivor st t steps a → Survivor st t steps b → t.asid ≡ None → has_asids t.company ≡ true → a.asid < b.asid → ⊥
     least a b x y i j l = clash (y.lowest_asid i a.asid l) (x.asid_free i j)
 
-    asid : (o : Bool) → t.one ≡ o → (h : Bool) → has_asids t.company ≡ h → d.asid ≡ e.asid
-    asid true i h j = u.own_asid i ∙ sym (v.own_asid i)
-    asid false i true j =
+    asid : (o : Option ℕ) → t.asid ≡ o → (h : Bool) → has_asids t.company ≡ h → d.asid ≡ e.asid
+    asid (Some n) i h j = u.own_asid n i ∙ sym (v.own_asid n i)
+    asid None i true j =
         let x : ltb d.asid e.asid ≡ false = not_so (ltb d.asid e.asid) (λ (q : ltb d.asid e.asid ≡ true). least d e u v i j (ltb-true d.asid e.asid q)) in
         let y : ltb e.asid d.asid ≡ false = not_so (ltb e.asid d.asid) (λ (q : ltb e.asid d.asid ≡ true). least e d v u i j (ltb-true e.asid d.asid q)) in
         omega (arith, ltb-false d.asid e.asid x, ltb-false e.asid d.asid y)
-    asid false i false j = u.no_asid j ∙ sym (v.no_asid j)
+    asid None i false j = u.no_asid j ∙ sym (v.no_asid j)
 
 -- "Judge: 13, 2, 8, 10 over all steps, 11 over all steps, 12.": "Each is given exactly when its row holds and no earlier check applies."; of the last
 -- row and of 0 `gap-number` and `accepted-number` say when
 abbrev pub rows : (list bad target refused outside : Bool) → ℕ → ℕ
 rows list bad target refused outside n = cond list (cond bad 2 (cond target (cond refused 10 (cond outside 11 n)) 8)) 13
 
-abbrev pub last_row : Judged → ℕ
+abbrev pub last_row : Result ⊤ Objection → ℕ
 last_row v = cond (eqb (judged_number v) 12) 12 0
 
-pub verdict-number : (st : State) (t : Target) (steps : List ℕ) (v : Judged) → st.vmid < 2 ^ 16 → Verdict st t steps v →
+pub verdict-number : (st : State) (t : Target) (steps : List ℕ) (v : Result ⊤ Objection) → st.vmid < 2 ^ 16 → Verdict st t steps v →
     judged_number v ≡ rows (is_list steps) (bad_state st) (is_target st t) (some (refuses st) steps) (some (is_outside st t.company) steps) (last_row v)
-verdict-number st t steps Accepted low (s, d) = simp (s.list, s.state, s.target, does-done st t steps s d, does-inside st t steps s low d)
-verdict-number st t steps BadShape low h = simp h
-verdict-number st t steps BadState low (l, b) = simp (l, b)
-verdict-number st t steps BadTarget low (l, b, g) = simp (l, b, g)
-verdict-number st t steps (Refused k) low (s, r, e) = simp (s.list, s.state, s.target, r)
-verdict-number st t steps (Outside k) low (s, r, o, e) = simp (s.list, s.state, s.target, r, o)
-verdict-number st t steps (Gap e) low (s, r, o, v) = simp (s.list, s.state, s.target, r, o)
+verdict-number st t steps (Ok tt) low (s, d) = simp (s.list, s.state, s.target, does-done st t steps s d, does-inside st t steps s low d)
+verdict-number st t steps (Err objection.BadShape) low h = simp h
+verdict-number st t steps (Err objection.BadState) low (l, b) = simp (l, b)
+verdict-number st t steps (Err objection.BadTarget) low (l, b, g) = simp (l, b, g)
+verdict-number st t steps (Err (objection.Refused k)) low (s, r, e) = simp (s.list, s.state, s.target, r)
+verdict-number st t steps (Err (objection.Outside k)) low (s, r, o, e) = simp (s.list, s.state, s.target, r, o)
+verdict-number st t steps (Err (objection.Gap e)) low (s, r, o, v) = simp (s.list, s.state, s.target, r, o)
 
 -- an answer by its number, its step and its entry
-abbrev answer_by : ℕ → ℕ → Entry → Judged
+abbrev answer_by : ℕ → ℕ → Entry → Result ⊤ Objection
 answer_by n k e =
-    cond (eqb n 13) BadShape
-    (cond (eqb n 2) BadState (cond (eqb n 8) BadTarget (cond (eqb n 10) (Refused k) (cond (eqb n 11) (Outside k) (cond (eqb n 12) (Gap e) Accepted)))))
+    cond (eqb n 13) (Err objection.BadShape)
+    (cond (eqb n 2) (Err objection.BadState) (cond (eqb n 8) (Err objection.BadTarget) (cond (eqb n 10) (Err (objection.Refused k)) (cond (eqb n 11) (Err (objection.Outside k)) (cond (eqb n 12) (Err (objection.Gap e)) (Ok tt))))))
 
-answer_back : (v : Judged) → answer_by (judged_number v) (judged_step v) (judged_entry v) ≡ v
-answer_back Accepted = refl
-answer_back BadShape = refl
-answer_back BadState = refl
-answer_back BadTarget = refl
-answer_back (Refused k) = refl
-answer_back (Outside k) = refl
-answer_back (Gap e) = refl
+answer_back : (v : Result ⊤ Objection) → answer_by (judged_number v) (judged_step v) (judged_entry v) ≡ v
+answer_back (Ok tt) = refl
+answer_back (Err objection.BadShape) = refl
+answer_back (Err objection.BadState) = refl
+answer_back (Err objection.BadTarget) = refl
+answer_back (Err (objection.Refused k)) = refl
+answer_back (Err (objection.Outside k)) = refl
+answer_back (Err (objection.Gap e)) = refl
 
-pub step_is : (st : State) (t : Target) (steps : List ℕ) (v : Judged) → Verdict st t steps v →
+pub step_is : (st : State) (t : Target) (steps : List ℕ) (v : Result ⊤ Objection) → Verdict st t steps v →
     judged_step v ≡ cond (eqb (judged_number v) 10) (first (refuses st) steps) (cond (eqb (judged_number v) 11) (first (is_outside st t.company) steps) 0)
-step_is st t steps Accepted h = refl
-step_is st t steps BadShape h = refl
-step_is st t steps BadState h = refl
-step_is st t steps BadTarget h = refl
-step_is st t steps (Refused k) h = h.2
-step_is st t steps (Outside k) h = h.3
-step_is st t steps (Gap e) h = refl
+step_is st t steps (Ok tt) h = refl
+step_is st t steps (Err objection.BadShape) h = refl
+step_is st t steps (Err objection.BadState) h = refl
+step_is st t steps (Err objection.BadTarget) h = refl
+step_is st t steps (Err (objection.Refused k)) h = h.2
+step_is st t steps (Err (objection.Outside k)) h = h.3
+step_is st t steps (Err (objection.Gap e)) h = refl
 
-pub entry-is : (v : Judged) → eqb (judged_number v) 12 ≡ false → judged_entry v ≡ no_entry
-entry-is Accepted h = refl
-entry-is BadShape h = refl
-entry-is BadState h = refl
-entry-is BadTarget h = refl
-entry-is (Refused k) h = refl
-entry-is (Outside k) h = refl
-entry-is (Gap e) h = clash refl h
+pub entry-is : (v : Result ⊤ Objection) → eqb (judged_number v) 12 ≡ false → judged_entry v ≡ no_entry
+entry-is (Ok tt) h = refl
+entry-is (Err objection.BadShape) h = refl
+entry-is (Err objection.BadState) h = refl
+entry-is (Err objection.BadTarget) h = refl
+entry-is (Err (objection.Refused k)) h = refl
+entry-is (Err (objection.Outside k)) h = refl
+entry-is (Err (objection.Gap e)) h = clash refl h
 
-gap_is : (st : State) (t : Target) (steps : List ℕ) (v : Judged) → eqb (judged_number v) 12 ≡ true → Verdict st t steps v →
+gap_is : (st : State) (t : Target) (steps : List ℕ) (v : Result ⊤ Objection) → eqb (judged_number v) 12 ≡ true → Verdict st t steps v →
     Sound st t steps × Survivor st t steps (judged_entry v)
-gap_is st t steps Accepted e h = clash e refl
-gap_is st t steps BadShape e h = clash e refl
-gap_is st t steps BadState e h = clash e refl
-gap_is st t steps BadTarget e h = clash e refl
-gap_is st t steps (Refused k) e h = clash e refl
-gap_is st t steps (Outside k) e h = clash e refl
-gap_is st t steps (Gap x) e h = (h.0, h.3)
+gap_is st t steps (Ok tt) e h = clash e refl
+gap_is st t steps (Err objection.BadShape) e h = clash e refl
+gap_is st t steps (Err objection.BadState) e h = clash e refl
+gap_is st t steps (Err objection.BadTarget) e h = clash e refl
+gap_is st t steps (Err (objection.Refused k)) e h = clash e refl
+gap_is st t steps (Err (objection.Outside k)) e h = clash e refl
+gap_is st t steps (Err (objection.Gap x)) e h = (h.0, h.3)
 
 -- "the contract leaves one possible answer"
-pub verdict-one : (st : State) (t : Target) (steps : List ℕ) (v w : Judged) → st.vmid < 2 ^ 16 → Verdict st t steps v → Verdict st t steps w → v ≡ w
+pub verdict-one : (st : State) (t : Target) (steps : List ℕ) (v w : Result ⊤ Objection) → st.vmid < 2 ^ 16 → Verdict st t steps v → Verdict st t steps w → v ≡ w
 verdict-one st t steps v w low hv hw = go (eqb (judged_number v) 12) refl (eqb (judged_number w) 12) refl
   where
     R : ℕ → ℕ
@@ -470,7 +464,7 @@ verdict-one st t steps v w low hv hw = go (eqb (judged_number v) 12) refl (eqb (
     zero_row false b c d e h = absurd (let z : ◌≡◌ {A = ℕ} 13 12 = h in omega arith)
 
     -- a gap and an acceptance exclude each other
-    apart : (x y : Judged) → Verdict st t steps x → Verdict st t steps y → eqb (judged_number x) 12 ≡ true → judged_number x ≡ R (last_row x) →
+    apart : (x y : Result ⊤ Objection) → Verdict st t steps x → Verdict st t steps y → eqb (judged_number x) 12 ≡ true → judged_number x ≡ R (last_row x) →
         eqb (judged_number y) 12 ≡ false → judged_number y ≡ R (last_row y) → ⊥
     apart x y hx hy ex nx ey ny =
         let twelve : judged_number x ≡ 12 = eqb-true (judged_number x) 12 ex in

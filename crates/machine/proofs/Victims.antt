@@ -6,8 +6,8 @@ use native.Mathlib.Omega.{arith}
 use lib.Dec.{eqb, ltb, leb}
 use lib.IntN.{ℤ, pos}
 use lib.Pow.{split}
-use lib.Signed.{le_z}
-use borrow.Author.Tests.{ltb-false, leb-false, eq-eqb, lt-ltb}
+use borrow.Author.Tests.{eqb-false, ltb-false, leb-false, eq-eqb, lt-ltb}
+use Rattle.std.specs.Prelude.{Option, Some, None, Ok, IfSome, is_some, is_none, unwrap_or}
 use Rattle.laws.proofs.Truth.{or-0, or-1, or_left, or_right, cond-self, clash}
 use Rattle.laws.specs.Bits.{bits, down}
 use Rattle.machine.proofs.Covered.{read-reach}
@@ -18,9 +18,9 @@ use Rattle.machine.proofs.Tags.{legal-holds, company-self}
 use Rattle.machine.proofs.Works.{asks, asked-ttl, resolves, fit, regime_of, is_stage2, scoped, owner, work-reached}
 use Rattle.machine.specs.Access.{reaches, reaches_by, uses_asid, is_host}
 use Rattle.machine.specs.Asked.{is_two_ranges, form_of, told_of}
-use Rattle.machine.specs.Entry.{has_asids, in_reach, is_placed, is_legal}
+use Rattle.machine.specs.Entry.{has_asids, in_reach, is_placed, is_same_asid, is_legal}
 use Rattle.machine.specs.Execute.{resolved_of}
-use Rattle.machine.specs.Goes.{is_width_of, goes, work_of}
+use Rattle.machine.specs.Goes.{is_width_of, is_at_level, goes, work_of}
 use Rattle.machine.specs.Operand.{copies_top}
 use Rattle.machine.specs.Range.{range_of}
 use Rattle.machine.specs.Span.{is_level, height_of, exponent_at, exponent_of, has_span}
@@ -39,10 +39,9 @@ use Rattle.machine.specs.declared.processor.State.{State}
 use Rattle.machine.specs.declared.scope.Regime.{Regime}
 use Rattle.machine.specs.declared.scope.Regime.TheVariants.{EL10, EL20, EL2, EL3}
 use Rattle.machine.specs.declared.work.Work.{Work}
-use Rattle.machine.specs.declared.work.Resolved.TheVariants as resolved
 
 -- the range starts at an address that an entry of the company can have
-work-reach : (st : State) (word xt xt2 : ℕ) (w : Work) → resolved_of st word xt xt2 ≡ resolved.Works w → in_reach w.company w.first ≡ true
+work-reach : (st : State) (word xt xt2 : ℕ) (w : Work) → resolved_of st word xt xt2 ≡ Ok w → in_reach w.company w.first ≡ true
 unfolding work_of in_reach has_asids told_of form_of range_of
 work-reach st word xt xt2 w h =
     let it = resolves st word xt xt2 w h in
@@ -68,15 +67,20 @@ work-reach st word xt xt2 w h =
     form false b false d = refl
 
 -- where an ASID applies, the company has ASIDs
-one-asids : (st : State) (word xt xt2 : ℕ) (w : Work) → resolved_of st word xt xt2 ≡ resolved.Works w → w.one ≡ true → has_asids w.company ≡ true
+one-asids : (st : State) (word xt xt2 : ℕ) (w : Work) → resolved_of st word xt xt2 ≡ Ok w → is_some w.asid ≡ true → has_asids w.company ≡ true
 unfolding work_of has_asids
 one-asids st word xt xt2 w h =
     let it = resolves st word xt xt2 w h in
     let s = it.scope in
     let k = scoped st it.operation s it.runs in
-    subst (λ (v : Work). v.one ≡ true → has_asids v.company ≡ true) it.work
-    (λ (one : s.asid ≡ true). by it.operation.name s.regime s.stage2 k.regime k.stage2 (sym k.asid ∙ one))
+    subst (λ (v : Work). is_some v.asid ≡ true → has_asids v.company ≡ true) it.work
+    (λ (one : is_some (cond s.asid (Some it.operand.asid) None) ≡ true).
+    by it.operation.name s.regime s.stage2 k.regime k.stage2 (sym k.asid ∙ applies it.operand.asid s.asid one))
   where
+    applies : (n : ℕ) (b : Bool) → is_some (cond b (Some n) None) ≡ true → b ≡ true
+    applies n true e = refl
+    applies n false e = e
+
     first : (a b : Bool) → is_two_ranges (cond a EL10 (cond b EL20 EL10)) ≡ true
     first true b = refl
     first false true = refl
@@ -109,20 +113,6 @@ record Leveled (l : ℤ) : Type 0 where
   some : 1 ≤ number
   most : number ≤ 3
   is : l ≡ pos number
-
-work-level : (st : State) (word xt xt2 : ℕ) (w : Work) → resolved_of st word xt xt2 ≡ resolved.Works w → w.hinted ≡ true → Leveled w.level
-unfolding work_of
-work-level st word xt xt2 w h =
-    let it = resolves st word xt xt2 w h in
-    let o = it.operand in
-    let low = asked-ttl st it.operation it.scope xt xt2 o it.range it.asked in
-    subst (λ (v : Work). v.hinted ≡ true → Leveled v.level) it.work
-    (λ (some : not (eqb o.ttl 0) ≡ true).
-    record { number = o.ttl; some = least o.ttl some; most = omega (arith, low); is = refl })
-  where
-    least : (n : ℕ) → not (eqb n 0) ≡ true → 1 ≤ n
-    least zero e = clash e refl
-    least (suc n) e = omega arith
 
 -- leaf levels have a span in every granule and width
 by_three : (P : ℕ → Type 0) → P 1 → P 2 → P 3 → (n : ℕ) → 1 ≤ n → n ≤ 3 → P n
@@ -172,13 +162,13 @@ own-reached st op h = simp (lt-ltb st.board.own st.board.count (own-board st h).
 
 -- the level that the hint names, or 3
 abbrev pub victim_level : Work → ℤ
-victim_level w = cond w.hinted w.level (pos 3)
+victim_level w = unwrap_or w.level (pos 3)
 
 unfoldable pub victim : State → Work → Entry
 victim st w = record {
   processor = st.board.own;
   company = w.company;
-  asid = cond w.one w.asid 0;
+  asid = unwrap_or w.asid 0;
   global = false;
   wide = w.wide;
   granule = w.granule;
@@ -188,15 +178,19 @@ victim st w = record {
   base = down (exponent_of w.wide w.granule (victim_level w)) w.first;
 }
 
-victim-level : (st : State) (word xt xt2 : ℕ) (w : Work) → resolved_of st word xt xt2 ≡ resolved.Works w → Leveled (victim_level w)
-victim-level st word xt xt2 w h = go w.hinted refl
+victim-level : (st : State) (word xt xt2 : ℕ) (w : Work) → resolved_of st word xt xt2 ≡ Ok w → Leveled (victim_level w)
+unfolding work_of
+victim-level st word xt xt2 w h =
+    let it = resolves st word xt xt2 w h in
+    subst (λ (v : Work). Leveled (victim_level v)) it.work
+    (by it.operand.ttl (asked-ttl st it.operation it.scope xt xt2 it.operand it.range it.asked) (eqb it.operand.ttl 0) refl)
   where
-    go : (b : Bool) → w.hinted ≡ b → Leveled (cond b w.level (pos 3))
-    go true e = work-level st word xt xt2 w h e
-    go false e = record { number = 3; some = omega arith; most = omega arith; is = refl }
+    by : (n : ℕ) → n < 4 → (b : Bool) → eqb n 0 ≡ b → Leveled (unwrap_or (cond b None (Some (pos n))) (pos 3))
+    by n l true e = record { number = 3; some = omega arith; most = omega arith; is = refl }
+    by n l false e = record { number = n; some = omega (arith, eqb-false n 0 e); most = omega arith; is = refl }
 
 -- an address with its lowest bits zero is in the same half
-reach-down : (st : State) (word xt xt2 : ℕ) (w : Work) (k : ℕ) → resolved_of st word xt xt2 ≡ resolved.Works w → k ≤ 54 → in_reach w.company (down k w.first) ≡ true
+reach-down : (st : State) (word xt xt2 : ℕ) (w : Work) (k : ℕ) → resolved_of st word xt xt2 ≡ Ok w → k ≤ 54 → in_reach w.company (down k w.first) ≡ true
 reach-down st word xt xt2 w k h l =
     let f = fit st word xt xt2 w h in
     let a = w.first in
@@ -205,7 +199,7 @@ reach-down st word xt xt2 w k h l =
     reach-between w.company k (a / 2 ^ k) a a l (omega arith) (omega (arith, split a k)) low low reach reach
     (or_right (not (has_asids w.company)) (eqb (bits 63 55 a) (bits 63 55 a)) (eq-eqb (bits 63 55 a) (bits 63 55 a) refl))
 
-module _ (st : State) (word xt xt2 : ℕ) (w : Work) (good : bad_state st ≡ false) (h : resolved_of st word xt xt2 ≡ resolved.Works w) where
+module _ (st : State) (word xt xt2 : ℕ) (w : Work) (good : bad_state st ≡ false) (h : resolved_of st word xt xt2 ≡ Ok w) where
   level : Leveled (victim_level w)
   level = victim-level st word xt xt2 w h
 
@@ -222,16 +216,16 @@ module _ (st : State) (word xt xt2 : ℕ) (w : Work) (good : bad_state st ≡ fa
       (record {
         processor = omega (arith, own-board st good);
         company = (owner st word xt xt2 w h).company;
-        asids = asids w.one refl;
+        asids = asids w.asid refl;
         placed = span.1;
         span = span.0;
         multiple = (span-some (exponent_of w.wide w.granule (victim_level w)) w.first).0;
         reach = reach-down st word xt xt2 w (exponent_of w.wide w.granule (victim_level w)) h (span-most w.wide w.granule (victim_level w) span.0);
       })
     where
-      asids : (b : Bool) → w.one ≡ b → (has_asids w.company || (eqb (cond b w.asid 0) 0 && not false)) ≡ true
-      asids true e = or_left (has_asids w.company) (eqb w.asid 0 && not false) (one-asids st word xt xt2 w h e)
-      asids false e = or_right (has_asids w.company) true refl
+      asids : (a : Option ℕ) → w.asid ≡ a → (has_asids w.company || (eqb (unwrap_or a 0) 0 && not false)) ≡ true
+      asids (Some n) e = or_left (has_asids w.company) (eqb n 0 && not false) (one-asids st word xt xt2 w h (ap is_some e))
+      asids None e = or_right (has_asids w.company) true refl
 
   pub victim-goes : goes w (victim st w) ≡ true
   unfolding victim
@@ -246,20 +240,20 @@ module _ (st : State) (word xt xt2 : ℕ) (w : Work) (good : bad_state st ≡ fa
         owned = company-self w.company;
         granule = eq-eqb w.granule w.granule refl;
         met = meets-by (down k w.first) k w.first w.last w.first (span-some k w.first).1 (omega arith) f.ordered;
-        hinted = hinted w.hinted (is_width_of w (victim st w)) (cond-self w.wide);
-        width = or_left (is_width_of w (victim st w)) (not w.hinted && w.d128) (cond-self w.wide);
+        hinted = hinted w.level (is_width_of w (victim st w)) (cond-self w.wide);
+        width = or_left (is_width_of w (victim st w)) (is_none w.level && w.d128) (cond-self w.wide);
         leaf = or_right (not w.leaves) true refl;
-        asid = asid w.one;
+        asid = asid w.asid;
         xs = or_right (not w.nxs) true refl;
       })
     where
-      asid : (b : Bool) → (not b || eqb (cond b w.asid 0) w.asid || (true && false)) ≡ true
-      asid true = ap (λ (c : Bool). c || false) (eq-eqb w.asid w.asid refl)
-      asid false = refl
+      asid : (a : Option ℕ) → (is_same_asid a (record (victim st w) { asid = unwrap_or a 0 }) || (true && false)) ≡ true
+      asid (Some n) = ap (λ (c : Bool). c || false) (eq-eqb n n refl)
+      asid None = refl
 
-      hinted : (b c : Bool) → c ≡ true → (not b || (c && (le_z (cond b w.level (pos 3)) w.level && le_z w.level (cond b w.level (pos 3))))) ≡ true
-      hinted true c e = simp (e, level-self w.level)
-      hinted false c e = refl
+      hinted : (a : Option ℤ) (c : Bool) → c ≡ true → (is_none a || (c && is_at_level a (record (victim st w) { level = unwrap_or a (pos 3) }))) ≡ true
+      hinted (Some l) c e = simp (e, level-self l)
+      hinted None c e = refl
 
   -- its numbers fit, since the state's VMID has 16 bits
   pub victim-sized : st.vmid < 2 ^ 16 → Sized (victim st w) × ((victim st w).base < 2 ^ 64)
@@ -269,7 +263,7 @@ module _ (st : State) (word xt xt2 : ℕ) (w : Work) (good : bad_state st ≡ fa
       let k = exponent_of w.wide w.granule (victim_level w) in
       let own = (owner st word xt xt2 w h).vmid in
       let vmid : w.company.vmid < 2 ^ 16 = subst (λ (n : ℕ). n < 2 ^ 16) (sym own) (by w.company.regime) in
-      ((vmid, asid w.one f.asid), omega (arith, split w.first k, f.ordered, f.last))
+      ((vmid, asid w.asid f.asid), omega (arith, split w.first k, f.ordered, f.last))
     where
       guest : (b : Bool) → cond b st.vmid 0 < 2 ^ 16
       guest true = low
@@ -281,6 +275,6 @@ module _ (st : State) (word xt xt2 : ℕ) (w : Work) (good : bad_state st ≡ fa
       by EL2 = omega arith
       by EL3 = omega arith
 
-      asid : (b : Bool) → w.asid < 2 ^ 16 → cond b w.asid 0 < 2 ^ 16
-      asid true l = l
-      asid false l = omega arith
+      asid : (a : Option ℕ) → IfSome a (λ n. n < 2 ^ 16) → unwrap_or a 0 < 2 ^ 16
+      asid (Some n) l = l
+      asid None l = omega arith

@@ -1,5 +1,6 @@
 -- The work of an operation: what it comes from, what its fields keep, and whose it is.
-use Prim.Native.Nat.{ℕ, zero, suc, ◌^◌, ◌<◌, ◌≤◌}
+use Rattle.std.specs.Prelude.{Option, Some, None, Result, Ok, Err, IfSome}
+use Prim.Native.Nat.{ℕ, suc, ◌^◌, ◌<◌, ◌≤◌}
 use mathlib.Core.Bool.{Bool, true, false, cond, not, ◌&&◌, ◌||◌}
 use mathlib.Core.Path.{◌≡◌, refl, sym, ap, ap₂, subst, ◌∙◌}
 use native.Mathlib.Omega.{arith}
@@ -9,11 +10,12 @@ use Rattle.laws.proofs.Truth.{or_right}
 use Rattle.laws.specs.Bits.{bits}
 use Rattle.laws.specs.Mask.{bit_of}
 use Rattle.machine.proofs.Covered.{read-base, range-some}
+use Rattle.machine.proofs.Numbers.{not-done}
 use Rattle.machine.proofs.Fields.{read-fields, writable, read-writable, read-within, writable-top}
 use Rattle.machine.proofs.Reach.{reached-bit}
 use Rattle.machine.proofs.Tags.{company-same}
 use Rattle.machine.specs.Access.{reaches, reached_of, uses_asid, has_l, scope_of, access_e1, access_e2, access_stage2, access_e3, access_of, access_by, access_nv, is_barred, is_trapped, acts_nxs, trapped}
-use Rattle.machine.specs.Answer.{access_number, ranged_number}
+use Rattle.machine.specs.Answer.{number_of}
 use Rattle.machine.specs.Asked.{xt_used, xt2_used, is_two_ranges, form_of, told_of, asked_of}
 use Rattle.machine.specs.Entry.{is_el10, is_root, is_state_of, is_company}
 use Rattle.machine.specs.Execute.{resolved_range, resolved_access, resolved_word, resolved_of, is_work}
@@ -27,65 +29,55 @@ use Rattle.machine.specs.Word.{read_of, family_of}
 use Rattle.machine.specs.declared.entry.Company.{Company}
 use Rattle.machine.specs.declared.operand.Form.TheVariants.{TwoRangesAsid, TwoRanges, OneRange, Stage2Ns, Stage2NoNs}
 use Rattle.machine.specs.declared.operand.Operand.{Operand}
-use Rattle.machine.specs.declared.operand.OperandRead.{OperandRead}
 use Rattle.machine.specs.declared.operand.Range.{Range}
-use Rattle.machine.specs.declared.operand.Ranged.{Ranged}
-use Rattle.machine.specs.declared.operation.Decoded.{Decoded}
 use Rattle.machine.specs.declared.operation.Family.{Family}
 use Rattle.machine.specs.declared.operation.Family.TheVariants.{E1, E2, E3, Stage2}
 use Rattle.machine.specs.declared.operation.Operation.{Operation}
 use Rattle.machine.specs.declared.processor.State.{State}
-use Rattle.machine.specs.declared.scope.Access.{Access}
 use Rattle.machine.specs.declared.scope.Regime.{Regime}
 use Rattle.machine.specs.declared.scope.Regime.TheVariants.{EL10, EL20, EL2, EL3}
 use Rattle.machine.specs.declared.scope.Scope.{Scope}
 use Rattle.machine.specs.declared.scope.Security.TheVariants.{Secure, NonSecure, Realm, Root}
-use Rattle.machine.specs.declared.work.Resolved.{Resolved}
 use Rattle.machine.specs.declared.work.Work.{Work}
-use Rattle.machine.specs.declared.operand.OperandRead.TheVariants as read
-use Rattle.machine.specs.declared.operand.Ranged.TheVariants as ranged
-use Rattle.machine.specs.declared.operation.Decoded.TheVariants as decoded
-use Rattle.machine.specs.declared.scope.Access.TheVariants as access
-use Rattle.machine.specs.declared.work.Resolved.TheVariants as resolved
+use Rattle.machine.specs.declared.refusal.Refusal.{Refusal}
+use Rattle.machine.specs.declared.refusal.Refusal.TheVariants as refusal
 
 -- fields that cover a range were read from the words, are not UNPREDICTABLE, and mean that range
 pub record Asks (st : State) (op : Operation) (s : Scope) (xt xt2 : ℕ) (o : Operand) (r : Range) : Type 0 where
-  pub read : operand_of (told_of st op s) (xt_used op xt) (xt2_used op xt2) ≡ read.Fields o
+  pub read : operand_of (told_of st op s) (xt_used op xt) (xt2_used op xt2) ≡ Ok o
   pub range : range_of o ≡ r
   pub predictable : is_unpredictable op.tlbip o ≡ false
 
-pub asks : (st : State) (op : Operation) (s : Scope) (xt xt2 : ℕ) (o : Operand) (r : Range) → asked_of st op s xt xt2 ≡ ranged.Covers o r →
+pub asks : (st : State) (op : Operation) (s : Scope) (xt xt2 : ℕ) (o : Operand) (r : Range) → asked_of st op s xt xt2 ≡ Ok (o, r) →
     Asks st op s xt xt2 o r
 unfolding asked_of ranged_of told_of
 asks st op s xt xt2 o r = go (operand_of (told_of st op s) (xt_used op xt) (xt2_used op xt2)) refl
   where
-    fields_of : Ranged → Operand
-    fields_of (ranged.Covers p q) = p
-    fields_of ranged.NoGranule = o
-    fields_of ranged.Unpredictable = o
+    fields_of : Result (Operand × Range) Refusal → Operand
+    fields_of (Ok p) = p.0
+    fields_of (Err f) = o
 
-    range_in : Ranged → Range
-    range_in (ranged.Covers p q) = q
-    range_in ranged.NoGranule = r
-    range_in ranged.Unpredictable = r
+    range_in : Result (Operand × Range) Refusal → Range
+    range_in (Ok p) = p.1
+    range_in (Err f) = r
 
-    by : (p : Operand) → operand_of (told_of st op s) (xt_used op xt) (xt2_used op xt2) ≡ read.Fields p → (b : Bool) → is_unpredictable op.tlbip p ≡ b →
-        cond b ranged.Unpredictable (ranged.Covers p (range_of p)) ≡ ranged.Covers o r → Asks st op s xt xt2 o r
-    by p e true u h = absurd (let z : ◌≡◌ {A = ℕ} 7 0 = ap ranged_number h in omega arith)
+    by : (p : Operand) → operand_of (told_of st op s) (xt_used op xt) (xt2_used op xt2) ≡ Ok p → (b : Bool) → is_unpredictable op.tlbip p ≡ b →
+        cond {A = Result (Operand × Range) Refusal} b (Err refusal.Unpredictable) (Ok (p, range_of p)) ≡ Ok (o, r) → Asks st op s xt xt2 o r
+    by p e true u h = absurd (let z : ◌≡◌ {A = ℕ} 7 0 = ap number_of h in omega arith)
     by p e false u h =
         let f : p ≡ o = ap fields_of h in
         record {
-          read = e ∙ ap read.Fields f;
+          read = e ∙ ap Ok f;
           range = ap range_of (sym f) ∙ ap range_in h;
           predictable = ap (is_unpredictable op.tlbip) (sym f) ∙ u;
         }
 
-    go : (x : OperandRead) → operand_of (told_of st op s) (xt_used op xt) (xt2_used op xt2) ≡ x → ranged_by op.tlbip x ≡ ranged.Covers o r → Asks st op s xt xt2 o r
-    go (read.Fields p) e h = by p e (is_unpredictable op.tlbip p) refl h
-    go read.NoGranule e h = absurd (let z : ◌≡◌ {A = ℕ} 6 0 = ap ranged_number h in omega arith)
+    go : (x : Result Operand Refusal) → operand_of (told_of st op s) (xt_used op xt) (xt2_used op xt2) ≡ x → ranged_by op.tlbip x ≡ Ok (o, r) → Asks st op s xt xt2 o r
+    go (Ok p) e h = by p e (is_unpredictable op.tlbip p) refl h
+    go (Err f) e h = absurd (not-done f (ap number_of h))
 
 -- so their TTL is one of four
-pub asked-ttl : (st : State) (op : Operation) (s : Scope) (xt xt2 : ℕ) (o : Operand) (r : Range) → asked_of st op s xt xt2 ≡ ranged.Covers o r → o.ttl < 4
+pub asked-ttl : (st : State) (op : Operation) (s : Scope) (xt xt2 : ℕ) (o : Operand) (r : Range) → asked_of st op s xt xt2 ≡ Ok (o, r) → o.ttl < 4
 asked-ttl st op s xt xt2 o r h = (read-within (told_of st op s) (xt_used op xt) (xt2_used op xt2) o (asks st op s xt xt2 o r h).read).4
 
 -- where there is work, the word is an operation, it runs, and its operand covers a range
@@ -94,62 +86,54 @@ pub record Resolves (st : State) (word xt xt2 : ℕ) (w : Work) : Type 0 where
   pub scope : Scope
   pub operand : Operand
   pub range : Range
-  pub known : read_of word ≡ decoded.Known operation
-  pub runs : access_of st operation ≡ access.Runs scope
-  pub asked : asked_of st operation scope xt xt2 ≡ ranged.Covers operand range
+  pub known : read_of word ≡ Some operation
+  pub runs : access_of st operation ≡ Ok scope
+  pub asked : asked_of st operation scope xt xt2 ≡ Ok (operand, range)
   pub work : work_of st operation scope operand range ≡ w
 
-pub resolves : (st : State) (word xt xt2 : ℕ) (w : Work) → resolved_of st word xt xt2 ≡ resolved.Works w → Resolves st word xt xt2 w
+pub resolves : (st : State) (word xt xt2 : ℕ) (w : Work) → resolved_of st word xt xt2 ≡ Ok w → Resolves st word xt xt2 w
 unfolding resolved_of
 resolves st word xt xt2 w = by_word (read_of word) refl
   where
-    none : {r : Resolved} → is_work r ≡ false → r ≡ resolved.Works w → ⊥
+    none : {r : Result Work Refusal} → is_work r ≡ false → r ≡ Ok w → ⊥
     none e h = let t : false ≡ true = sym e ∙ ap is_work h in let z : ◌≡◌ {A = ℕ} 0 1 = cc in omega arith
 
-    work_in : Resolved → Work
-    work_in (resolved.Works v) = v
-    work_in resolved.Unknown = w
-    work_in resolved.Undefined = w
-    work_in (resolved.Trapped n) = w
-    work_in resolved.NoEffect = w
-    work_in resolved.NoGranule = w
-    work_in resolved.Unpredictable = w
+    work_in : Result Work Refusal → Work
+    work_in (Ok v) = v
+    work_in (Err r) = w
 
-    by_range : (op : Operation) → read_of word ≡ decoded.Known op → (s : Scope) → access_of st op ≡ access.Runs s → (x : Ranged) → asked_of st op s xt xt2 ≡ x →
-        resolved_range st op s x ≡ resolved.Works w → Resolves st word xt xt2 w
-    by_range op k s a (ranged.Covers o r) e h =
+    by_range : (op : Operation) → read_of word ≡ Some op → (s : Scope) → access_of st op ≡ Ok s → (x : Result (Operand × Range) Refusal) → asked_of st op s xt xt2 ≡ x →
+        resolved_range st op s x ≡ Ok w → Resolves st word xt xt2 w
+    by_range op k s a (Ok (o, r)) e h =
         record { operation = op; scope = s; operand = o; range = r; known = k; runs = a; asked = e; work = ap work_in h }
-    by_range op k s a ranged.NoGranule e h = absurd (none refl h)
-    by_range op k s a ranged.Unpredictable e h = absurd (none refl h)
+    by_range op k s a (Err r) e h = absurd (none refl h)
 
-    by_access : (op : Operation) → read_of word ≡ decoded.Known op → (x : Access) → access_of st op ≡ x → resolved_access st op xt xt2 x ≡ resolved.Works w →
+    by_access : (op : Operation) → read_of word ≡ Some op → (x : Result Scope Refusal) → access_of st op ≡ x → resolved_access st op xt xt2 x ≡ Ok w →
         Resolves st word xt xt2 w
-    by_access op k access.Undefined e h = absurd (none refl h)
-    by_access op k (access.Trapped v) e h = absurd (none refl h)
-    by_access op k access.NoEffect e h = absurd (none refl h)
-    by_access op k (access.Runs s) e h = by_range op k s e (asked_of st op s xt xt2) refl h
+    by_access op k (Err r) e h = absurd (none refl h)
+    by_access op k (Ok s) e h = by_range op k s e (asked_of st op s xt xt2) refl h
 
-    by_word : (x : Decoded) → read_of word ≡ x → resolved_word st xt xt2 x ≡ resolved.Works w → Resolves st word xt xt2 w
-    by_word (decoded.Known op) e h = by_access op e (access_of st op) refl h
-    by_word decoded.Unknown e h = absurd (none refl h)
+    by_word : (x : Option Operation) → read_of word ≡ x → resolved_word st xt xt2 x ≡ Ok w → Resolves st word xt xt2 w
+    by_word (Some op) e h = by_access op e (access_of st op) refl h
+    by_word None e h = absurd (none refl h)
 
 -- a word is one operation
-pub known-one : {x y : Operation} → decoded.Known x ≡ decoded.Known y → x ≡ y
+pub known-one : {x y : Operation} → Some x ≡ Some y → x ≡ y
 known-one {x} h = ap operation_in h
   where
-    operation_in : Decoded → Operation
-    operation_in (decoded.Known o) = o
-    operation_in decoded.Unknown = x
+    operation_in : Option Operation → Operation
+    operation_in (Some o) = o
+    operation_in None = x
 
 -- what the fields of work keep
 pub record Fit (w : Work) : Type 0 where
   pub granule_some : 1 ≤ w.granule
   pub granule_most : w.granule ≤ 3
-  pub asid : w.asid < 2 ^ 16
+  pub asid : IfSome w.asid (λ n. n < 2 ^ 16)
   pub ordered : w.first ≤ w.last
   pub last : w.last < 2 ^ 64
 
-pub fit : (st : State) (word xt xt2 : ℕ) (w : Work) → resolved_of st word xt xt2 ≡ resolved.Works w → Fit w
+pub fit : (st : State) (word xt xt2 : ℕ) (w : Work) → resolved_of st word xt xt2 ≡ Ok w → Fit w
 unfolding work_of
 fit st word xt xt2 w h =
     let it = resolves st word xt xt2 w h in
@@ -163,10 +147,14 @@ fit st word xt xt2 w h =
     (record {
       granule_some = within.0;
       granule_most = omega (arith, within.1);
-      asid = omega (arith, top);
+      asid = asid it.scope.asid (omega (arith, top));
       ordered = subst (λ (r : Range). r.first ≤ r.last) a.range some.0;
       last = subst (λ (r : Range). r.last < 2 ^ 64) a.range some.1;
     })
+  where
+    asid : {a : ℕ} (b : Bool) → a < 2 ^ 16 → IfSome (cond b (Some a) None) (λ n. n < 2 ^ 16)
+    asid true l = l
+    asid false l = tt
 
 -- the regime and the stage that the names of a family act on, where they run
 abbrev pub regime_of : Family → State → Regime
@@ -192,67 +180,65 @@ pub record Scoped (f : Family) (st : State) (op : Operation) (s : Scope) : Type 
   pub asid : s.asid ≡ uses_asid op.name s.regime
   pub last : s.last ≡ has_l op.name
 
-abbrev scope_in : Scope → Access → Scope
-scope_in s access.Undefined = s
-scope_in s (access.Trapped v) = s
-scope_in s access.NoEffect = s
-scope_in s (access.Runs t) = t
+abbrev scope_in : Scope → Result Scope Refusal → Scope
+scope_in s (Err r) = s
+scope_in s (Ok t) = t
 
 runs-scoped : (f : Family) (st : State) (op : Operation) (s : Scope) (g : Regime) (stage2 nxs : Bool) → g ≡ regime_of f st → stage2 ≡ is_stage2 f →
-    access.Runs (scope_of st op g stage2 nxs) ≡ access.Runs s → Scoped f st op s
+    ◌≡◌ {A = Result Scope Refusal} (Ok (scope_of st op g stage2 nxs)) (Ok s) → Scoped f st op s
 unfolding scope_of
 runs-scoped f st op s g stage2 nxs e i h =
     subst (Scoped f st op) (ap (scope_in s) h)
     (record { regime = e; stage2 = i; security = refl; vmid = refl; reached = refl; asid = refl; last = refl })
 
-refused : {x : Access} {n : ℕ} {s : Scope} {A : Type 0} → access_number x ≡ suc n → x ≡ access.Runs s → A
-refused {x} {n} e h = absurd (let z : suc n ≡ 0 = sym e ∙ ap access_number h in omega arith)
+refused : {x : Result Scope Refusal} {n : ℕ} {s : Scope} {A : Type 0} → number_of x ≡ suc n → x ≡ Ok s → A
+refused {x} {n} e h = absurd (let z : suc n ≡ 0 = sym e ∙ ap number_of h in omega arith)
 
-pub scoped : (st : State) (op : Operation) (s : Scope) → access_of st op ≡ access.Runs s → Scoped (family_of op.name) st op s
+pub scoped : (st : State) (op : Operation) (s : Scope) → access_of st op ≡ Ok s → Scoped (family_of op.name) st op s
 unfolding access_of access_e1 access_e2 access_stage2 access_e3
 scoped st op s = barred (is_barred st op)
   where
     by_e1 : (a : Bool) → eqb st.el 1 ≡ a → (b : Bool) →
-        cond a (cond b (trapped op) (access.Runs (scope_of st op EL10 false (acts_nxs st op))))
-        (access.Runs (scope_of st op (cond (e2h_of st && tge_of st) EL20 EL10) false op.nxs))
-        ≡ access.Runs s →
+        cond a (cond b (trapped op) (Ok (scope_of st op EL10 false (acts_nxs st op))))
+        (Ok (scope_of st op (cond (e2h_of st && tge_of st) EL20 EL10) false op.nxs))
+        ≡ Ok s →
         Scoped E1 st op s
     by_e1 true e true h = refused refl h
     by_e1 true e false h = runs-scoped E1 st op s EL10 false (acts_nxs st op) (simp e) refl h
     by_e1 false e b h = runs-scoped E1 st op s (cond (e2h_of st && tge_of st) EL20 EL10) false op.nxs (simp e) refl h
 
-    by_nv : (f : Family) (a : Bool) → cond a (trapped op) access.Undefined ≡ access.Runs s → Scoped f st op s
+    by_nv : (f : Family) (a : Bool) → cond a (trapped op) (Err refusal.Undefined) ≡ Ok s → Scoped f st op s
     by_nv f true h = refused refl h
     by_nv f false h = refused refl h
 
-    by_e2 : (a b : Bool) → cond a (access_nv st op) (cond b (access.Runs (scope_of st op (cond (e2h_of st) EL20 EL2) false op.nxs)) access.Undefined) ≡ access.Runs s →
+    by_e2 : (a b : Bool) → cond a (access_nv st op) (cond b (Ok (scope_of st op (cond (e2h_of st) EL20 EL2) false op.nxs)) (Err refusal.Undefined)) ≡ Ok s →
         Scoped E2 st op s
     by_e2 true b h = by_nv E2 (el2_enabled st && st.hcr.nv) h
     by_e2 false true h = runs-scoped E2 st op s (cond (e2h_of st) EL20 EL2) false op.nxs refl refl h
     by_e2 false false h = refused refl h
 
-    by_stage2 : (a b : Bool) → cond a (access_nv st op) (cond b (access.Runs (scope_of st op EL10 true op.nxs)) access.NoEffect) ≡ access.Runs s →
+    by_stage2 : (a b : Bool) → cond a (access_nv st op) (cond b (Ok (scope_of st op EL10 true op.nxs)) (Err refusal.NoEffect)) ≡ Ok s →
         Scoped Stage2 st op s
     by_stage2 true b h = by_nv Stage2 (el2_enabled st && st.hcr.nv) h
     by_stage2 false true h = runs-scoped Stage2 st op s EL10 true op.nxs refl refl h
     by_stage2 false false h = refused refl h
 
-    by_e3 : (a : Bool) → cond a access.Undefined (access.Runs (scope_of st op EL3 false op.nxs)) ≡ access.Runs s → Scoped E3 st op s
+    by_e3 : (a : Bool) → cond a (Err refusal.Undefined) (Ok (scope_of st op EL3 false op.nxs)) ≡ Ok s → Scoped E3 st op s
     by_e3 true h = refused refl h
     by_e3 false h = runs-scoped E3 st op s EL3 false op.nxs refl refl h
 
-    by_family : (f : Family) → access_by f st op ≡ access.Runs s → Scoped f st op s
+    by_family : (f : Family) → access_by f st op ≡ Ok s → Scoped f st op s
     by_family E1 h = by_e1 (eqb st.el 1) refl (is_trapped st op) h
     by_family E2 h = by_e2 (eqb st.el 1) (el2_enabled st) h
     by_family E3 h = by_e3 (ltb st.el 3) h
     by_family Stage2 h = by_stage2 (eqb st.el 1) (el2_enabled st) h
 
-    barred : (a : Bool) → cond a access.Undefined (access_by (family_of op.name) st op) ≡ access.Runs s → Scoped (family_of op.name) st op s
+    barred : (a : Bool) → cond a (Err refusal.Undefined) (access_by (family_of op.name) st op) ≡ Ok s → Scoped (family_of op.name) st op s
     barred true h = refused refl h
     barred false h = by_family (family_of op.name) h
 
 -- below EL3 no E3 name runs
-pub scoped-below : (st : State) (op : Operation) (s : Scope) → st.el < 3 → access_of st op ≡ access.Runs s → s.regime ≡ EL3 → ⊥
+pub scoped-below : (st : State) (op : Operation) (s : Scope) → st.el < 3 → access_of st op ≡ Ok s → s.regime ≡ EL3 → ⊥
 unfolding access_of access_e3
 scoped-below st op s el h e = barred (is_barred st op) h
   where
@@ -277,12 +263,12 @@ scoped-below st op s el h e = barred (is_barred st op) h
     low : ltb st.el 3 ≡ true
     low = lt-ltb st.el 3 el
 
-    barred : (a : Bool) → cond a access.Undefined (access_by (family_of op.name) st op) ≡ access.Runs s → ⊥
+    barred : (a : Bool) → cond a (Err refusal.Undefined) (access_by (family_of op.name) st op) ≡ Ok s → ⊥
     barred true h = refused refl h
-    barred false h = refused {x = access.Undefined} refl (sym (ap (λ f. access_by f st op) is ∙ rw low refl) ∙ h)
+    barred false h = refused {x = Err refusal.Undefined} refl (sym (ap (λ f. access_by f st op) is ∙ rw low refl) ∙ h)
 
 -- a guest's: at EL1 only stage 1 of EL1&0 is acted on
-pub scoped-guest : (st : State) (op : Operation) (s : Scope) → st.el ≡ 1 → access_of st op ≡ access.Runs s → (s.regime ≡ EL10) × (s.stage2 ≡ false)
+pub scoped-guest : (st : State) (op : Operation) (s : Scope) → st.el ≡ 1 → access_of st op ≡ Ok s → (s.regime ≡ EL10) × (s.stage2 ≡ false)
 unfolding access_of access_e1 access_e2 access_stage2 access_e3 scope_of
 scoped-guest st op s el = barred (is_barred st op)
   where
@@ -292,21 +278,21 @@ scoped-guest st op s el = barred (is_barred st op)
     at3 : ltb st.el 3 ≡ true
     at3 = ap (λ (n : ℕ). ltb n 3) el
 
-    by_nv : (a : Bool) → cond a (trapped op) access.Undefined ≡ access.Runs s → (s.regime ≡ EL10) × (s.stage2 ≡ false)
+    by_nv : (a : Bool) → cond a (trapped op) (Err refusal.Undefined) ≡ Ok s → (s.regime ≡ EL10) × (s.stage2 ≡ false)
     by_nv true h = refused refl h
     by_nv false h = refused refl h
 
-    by_e1 : (b : Bool) → cond b (trapped op) (access.Runs (scope_of st op EL10 false (acts_nxs st op))) ≡ access.Runs s → (s.regime ≡ EL10) × (s.stage2 ≡ false)
+    by_e1 : (b : Bool) → cond b (trapped op) (Ok (scope_of st op EL10 false (acts_nxs st op))) ≡ Ok s → (s.regime ≡ EL10) × (s.stage2 ≡ false)
     by_e1 true h = refused refl h
     by_e1 false h = let e = ap (scope_in s) h in (ap (λ (t : Scope). t.regime) (sym e), ap (λ (t : Scope). t.stage2) (sym e))
 
-    by_family : (f : Family) → access_by f st op ≡ access.Runs s → (s.regime ≡ EL10) × (s.stage2 ≡ false)
+    by_family : (f : Family) → access_by f st op ≡ Ok s → (s.regime ≡ EL10) × (s.stage2 ≡ false)
     by_family E1 h = by_e1 (is_trapped st op) (sym (rw at1 refl) ∙ h)
     by_family E2 h = by_nv (el2_enabled st && st.hcr.nv) (sym (rw at1 refl) ∙ h)
-    by_family E3 h = refused {x = access.Undefined} refl (sym (rw at3 refl) ∙ h)
+    by_family E3 h = refused {x = Err refusal.Undefined} refl (sym (rw at3 refl) ∙ h)
     by_family Stage2 h = by_nv (el2_enabled st && st.hcr.nv) (sym (rw at1 refl) ∙ h)
 
-    barred : (a : Bool) → cond a access.Undefined (access_by (family_of op.name) st op) ≡ access.Runs s → (s.regime ≡ EL10) × (s.stage2 ≡ false)
+    barred : (a : Bool) → cond a (Err refusal.Undefined) (access_by (family_of op.name) st op) ≡ Ok s → (s.regime ≡ EL10) × (s.stage2 ≡ false)
     barred true h = refused refl h
     barred false h = by_family (family_of op.name) h
 
@@ -354,7 +340,7 @@ pub record Owner (st : State) (c : Company) : Type 0 where
   pub vmid : c.vmid ≡ vmid_in st c.regime
   pub company : is_company c ≡ true
 
-pub owner : (st : State) (word xt xt2 : ℕ) (w : Work) → resolved_of st word xt xt2 ≡ resolved.Works w → Owner st w.company
+pub owner : (st : State) (word xt xt2 : ℕ) (w : Work) → resolved_of st word xt xt2 ≡ Ok w → Owner st w.company
 unfolding work_of is_company vmid_in
 owner st word xt xt2 w h =
     let it = resolves st word xt xt2 w h in
@@ -381,7 +367,7 @@ owner st word xt xt2 w h =
     staged Stage2 b g e i = ap₂ (λ (x : Bool) (y : Regime). not x || is_el10 y) e i
 
 -- a guest's work, at EL1, is stage 1 of EL1&0 with the state's own VMID and security state, whatever the word and the operand
-pub owner-guest : (st : State) (word xt xt2 : ℕ) (w : Work) → st.el ≡ 1 → resolved_of st word xt xt2 ≡ resolved.Works w → w.company ≡ stage1_of st EL10
+pub owner-guest : (st : State) (word xt xt2 : ℕ) (w : Work) → st.el ≡ 1 → resolved_of st word xt xt2 ≡ Ok w → w.company ≡ stage1_of st EL10
 unfolding work_of stage1_of
 owner-guest st word xt xt2 w el h =
     let it = resolves st word xt xt2 w h in
@@ -402,7 +388,7 @@ owner-guest st word xt xt2 w el h =
     none false b c e h = refl
 
 -- the company of the work of a word: regime and stage by the family of its name, and "for RIPAS2 bit 63 is NS" in the Secure state
-pub work-company : (st : State) (word xt xt2 : ℕ) (w : Work) (op : Operation) → resolved_of st word xt xt2 ≡ resolved.Works w → read_of word ≡ decoded.Known op →
+pub work-company : (st : State) (word xt xt2 : ℕ) (w : Work) (op : Operation) → resolved_of st word xt xt2 ≡ Ok w → read_of word ≡ Some op →
     (w.company.regime ≡ regime_of (family_of op.name) st)
     × (w.company.stage2 ≡ is_stage2 (family_of op.name))
     × (w.company.ns ≡ (w.company.stage2 && is_secure w.company.security && eqb (bits 63 63 (xt_used op xt)) 1))
@@ -440,7 +426,7 @@ work-company st word xt xt2 w op h known =
     form false b false d n = refl
 
 -- "its processor is below the count and reached"
-pub work-reached : (st : State) (word xt xt2 : ℕ) (w : Work) (op : Operation) (p : ℕ) → resolved_of st word xt xt2 ≡ resolved.Works w → read_of word ≡ decoded.Known op →
+pub work-reached : (st : State) (word xt xt2 : ℕ) (w : Work) (op : Operation) (p : ℕ) → resolved_of st word xt xt2 ≡ Ok w → read_of word ≡ Some op →
     p < 8 → bit_of w.reached p ≡ reaches st op p
 unfolding work_of
 work-reached st word xt xt2 w op p h known low =

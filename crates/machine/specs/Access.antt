@@ -1,5 +1,5 @@
 -- 01, "Access rules": whether an operation runs in a state, and on what.
-use Rattle.std.specs.Prelude.{ℕ, Bool, true, false, cond, not, ◌&&◌, ◌||◌, eqb, ltb}
+use Rattle.std.specs.Prelude.{ℕ, Bool, true, false, cond, not, ◌&&◌, ◌||◌, eqb, ltb, Result, Ok, Err}
 use Rattle.laws.specs.Mask.{mask_from}
 use Rattle.machine.specs.declared.operation.Name.{Name}
 use Rattle.machine.specs.declared.operation.Name.TheVariants.{
@@ -27,10 +27,10 @@ use Rattle.machine.specs.declared.processor.State.{State}
 use Rattle.machine.specs.declared.scope.Regime.{Regime}
 use Rattle.machine.specs.declared.scope.Regime.TheVariants.{EL10, EL20, EL2, EL3}
 use Rattle.machine.specs.declared.scope.Scope.{Scope}
-use Rattle.machine.specs.declared.scope.Access.{Access}
-use Rattle.machine.specs.declared.scope.Access.TheVariants.{Undefined, Trapped, NoEffect, Runs}
 use Rattle.machine.specs.Word.{family_of, is_odd_pair}
 use Rattle.machine.specs.State.{security_in, el2_enabled, e2h_of, tge_of, vmid_in, hcrx_live, inner_of, outer_of}
+use Rattle.machine.specs.declared.refusal.Refusal.{Refusal}
+use Rattle.machine.specs.declared.refusal.Refusal.TheVariants as refusal
 
 abbrev pub is_inner : Share → Bool
 is_inner Local = false
@@ -88,8 +88,8 @@ is_trapped st op =
     || traps_fine st op)
 
 -- "trapped to EL2", with "0x18 (TLBI) or 0x14 (TLBIP)"
-abbrev pub trapped : Operation → Access
-trapped op = Trapped (cond op.tlbip 0x14 0x18)
+abbrev pub trapped : Operation → Result Scope Refusal
+trapped op = Err (refusal.Trapped (cond op.tlbip 0x14 0x18))
 
 -- "reached (own number; same inner; same outer domain)": what an operation of a shareability reaches
 abbrev pub reaches_by : Share → Board → ℕ → Bool
@@ -156,41 +156,41 @@ abbrev pub acts_nxs : State → Operation → Bool
 acts_nxs st op = op.nxs || (st.features.xs && hcrx_live st && st.hcrx.fnxs)
 
 -- "E1 at EL1: trapped, ... Else regime EL1&0. ... At EL2/EL3: EL2&0 if {E2H, TGE} is 11, else EL1&0."
-unfoldable pub access_e1 : State → Operation → Access
+unfoldable pub access_e1 : State → Operation → Result Scope Refusal
 access_e1 st op =
     cond (eqb st.el 1)
-    (cond (is_trapped st op) (trapped op) (Runs (scope_of st op EL10 false (acts_nxs st op))))
-    (Runs (scope_of st op (cond (e2h_of st && tge_of st) EL20 EL10) false op.nxs))
+    (cond (is_trapped st op) (trapped op) (Ok (scope_of st op EL10 false (acts_nxs st op))))
+    (Ok (scope_of st op (cond (e2h_of st && tge_of st) EL20 EL10) false op.nxs))
 
 -- "E2 names and RIPAS2 at EL1: trapped if EL2 enabled and NV, else 3."
-abbrev pub access_nv : State → Operation → Access
-access_nv st op = cond (el2_enabled st && st.hcr.nv) (trapped op) Undefined
+abbrev pub access_nv : State → Operation → Result Scope Refusal
+access_nv st op = cond (el2_enabled st && st.hcr.nv) (trapped op) (Err refusal.Undefined)
 
 -- "At EL3 with EL2 disabled: E2 names 3 ... E2 names use EL2&0 if E2H is 1, else EL2."
-unfoldable pub access_e2 : State → Operation → Access
+unfoldable pub access_e2 : State → Operation → Result Scope Refusal
 access_e2 st op =
     cond (eqb st.el 1) (access_nv st op)
-    (cond (el2_enabled st) (Runs (scope_of st op (cond (e2h_of st) EL20 EL2) false op.nxs)) Undefined)
+    (cond (el2_enabled st) (Ok (scope_of st op (cond (e2h_of st) EL20 EL2) false op.nxs)) (Err refusal.Undefined))
 
 -- "At EL3 with EL2 disabled: ... RIPAS2 5 (003)."; "Stage 2 is EL1&0."
-unfoldable pub access_stage2 : State → Operation → Access
+unfoldable pub access_stage2 : State → Operation → Result Scope Refusal
 access_stage2 st op =
     cond (eqb st.el 1) (access_nv st op)
-    (cond (el2_enabled st) (Runs (scope_of st op EL10 true op.nxs)) NoEffect)
+    (cond (el2_enabled st) (Ok (scope_of st op EL10 true op.nxs)) (Err refusal.NoEffect))
 
 -- "E3 names below EL3: 3."
-unfoldable pub access_e3 : State → Operation → Access
-access_e3 st op = cond (ltb st.el 3) Undefined (Runs (scope_of st op EL3 false op.nxs))
+unfoldable pub access_e3 : State → Operation → Result Scope Refusal
+access_e3 st op = cond (ltb st.el 3) (Err refusal.Undefined) (Ok (scope_of st op EL3 false op.nxs))
 
-abbrev pub access_by : Family → State → Operation → Access
+abbrev pub access_by : Family → State → Operation → Result Scope Refusal
 access_by E1 st op = access_e1 st op
 access_by E2 st op = access_e2 st op
 access_by E3 st op = access_e3 st op
 access_by Stage2 st op = access_stage2 st op
 
 -- "3 to 5 by the access rules (first that holds, absent features, EL0 and odd Rt before the rest)"
-unfoldable pub access_of : State → Operation → Access
-access_of st op = cond (is_barred st op) Undefined (access_by (family_of op.name) st op)
+unfoldable pub access_of : State → Operation → Result Scope Refusal
+access_of st op = cond (is_barred st op) (Err refusal.Undefined) (access_by (family_of op.name) st op)
 
 -- DS of the regime that is acted on
 abbrev pub ds_of : Ds → Regime → Bool → Bool

@@ -1,8 +1,7 @@
 -- 01, "Instruction words" and "Operands": what an operation that runs asks for by its register's words.
-use Rattle.std.specs.Prelude.{ℕ, Bool, true, false, cond, eqb, leb}
+use Rattle.std.specs.Prelude.{ℕ, Bool, true, false, cond, eqb, leb, Result}
 use Rattle.machine.specs.declared.operand.Form.{Form}
 use Rattle.machine.specs.declared.operand.Form.TheVariants.{TwoRangesAsid, TwoRanges, OneRange, Stage2Ns, Stage2NoNs}
-use Rattle.machine.specs.declared.operand.Ranged.{Ranged}
 use Rattle.machine.specs.declared.operand.Told.{Told}
 use Rattle.machine.specs.declared.operation.Operation.{Operation}
 use Rattle.machine.specs.declared.processor.State.{State}
@@ -12,6 +11,9 @@ use Rattle.machine.specs.declared.scope.Scope.{Scope}
 use Rattle.machine.specs.State.{is_secure}
 use Rattle.machine.specs.Access.{is_unit_64k}
 use Rattle.machine.specs.Range.{ranged_of}
+use Rattle.machine.specs.declared.refusal.Refusal.{Refusal}
+use Rattle.machine.specs.declared.operand.Operand.{Operand}
+use Rattle.machine.specs.declared.operand.Range.{Range}
 
 -- "Rt 31 means a zero operand, whatever was passed; under SYSP with Rt 30, Xt2 counts as zero."
 abbrev pub xt_used : Operation → ℕ → ℕ
@@ -42,5 +44,5 @@ told_of st op s = record {
   unit64k = is_unit_64k st s.regime s.stage2;
 }
 
-unfoldable pub asked_of : State → Operation → Scope → ℕ → ℕ → Ranged
+unfoldable pub asked_of : State → Operation → Scope → ℕ → ℕ → Result (Operand × Range) Refusal
 asked_of st op s xt xt2 = ranged_of (told_of st op s) (xt_used op xt) (xt2_used op xt2)

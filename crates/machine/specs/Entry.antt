@@ -1,5 +1,5 @@
 -- 01, "Entries": what an entry is, and which are legal.
-use Rattle.std.specs.Prelude.{ℕ, ◌-◌, ◌%◌, ◌^◌, Bool, true, false, cond, not, ◌&&◌, ◌||◌, eqb, ltb, leb, ℤ, pos, negsuc}
+use Rattle.std.specs.Prelude.{ℕ, ◌-◌, ◌%◌, ◌^◌, Bool, true, false, cond, not, ◌&&◌, ◌||◌, eqb, ltb, leb, ℤ, pos, negsuc, Option, Some, None}
 use Rattle.std.specs.Int.Signed.{le_z}
 use Rattle.laws.specs.Bits.{bits}
 use Rattle.machine.specs.declared.entry.Company.{Company}
@@ -51,6 +51,11 @@ is_placed leaf l global = cond leaf (le_z (pos 1) l && le_z l (pos 3)) (le_z (ne
 -- "bits 63:55 are equal (stage 1 of EL1&0 and EL2&0), or it is below 2^56 (all else)"
 unfoldable pub in_reach : Company → ℕ → Bool
 in_reach c base = cond (has_asids c) (eqb (bits 63 55 base) 0 || eqb (bits 63 55 base) (2 ^ 9 - 1)) (ltb base (2 ^ 56))
+
+-- the entry's ASID is the one that is given, where one is
+abbrev pub is_same_asid : Option ℕ → Entry → Bool
+is_same_asid None e = true
+is_same_asid (Some n) e = eqb e.asid n
 
 -- 2^k is the entry's span
 abbrev pub span_of : Entry → ℕ

@@ -1,5 +1,5 @@
 -- 01, "Entries": "An entry goes exactly when all hold", part by part.
-use Rattle.std.specs.Prelude.{ℕ, ◌+◌, ◌*◌, ◌^◌, Bool, cond, not, ◌&&◌, ◌||◌, eqb, pos}
+use Rattle.std.specs.Prelude.{ℕ, ◌+◌, ◌*◌, ◌^◌, Bool, true, cond, not, ◌&&◌, ◌||◌, eqb, ℤ, pos, Option, Some, None, is_none}
 use Rattle.std.specs.Int.Signed.{lt_z}
 use Rattle.laws.specs.Mask.{bit_of}
 use Rattle.machine.specs.declared.entry.Company.{Company}
@@ -11,13 +11,17 @@ use Rattle.machine.specs.declared.processor.State.{State}
 use Rattle.machine.specs.declared.scope.Scope.{Scope}
 use Rattle.machine.specs.declared.work.Work.{Work}
 use Rattle.machine.specs.Span.{same_level, meets_range}
-use Rattle.machine.specs.Entry.{span_of}
+use Rattle.machine.specs.Entry.{is_same_asid, span_of}
 use Rattle.machine.specs.Tag.{company_tag, entry_at, is_entry}
 use Rattle.machine.specs.Table.{same_company}
 
 -- the company that an operation acts on: "for RIPAS2 bit 63 is NS"
 abbrev pub company_of : Scope → Operand → Company
 company_of s o = record { regime = s.regime; security = s.security; vmid = s.vmid; stage2 = s.stage2; ns = eqb o.ns 1 }
+
+-- the level that TTL names, where it is not 00
+abbrev pub level_told : ℕ → Option ℤ
+level_told ttl = cond (eqb ttl 0) None (Some (pos ttl))
 
 -- an operation that runs, with its operand and the range that this means
 unfoldable pub work_of : State → Operation → Scope → Operand → Range → Work
@@ -27,13 +31,11 @@ work_of st op s o r = record {
   granule = o.tg;
   first = r.first;
   last = r.last;
-  hinted = not (eqb o.ttl 0);
-  level = pos o.ttl;
+  level = level_told o.ttl;
   wide = op.tlbip;
   d128 = st.features.d128;
   leaves = s.last;
-  one = s.asid;
-  asid = o.asid;
+  asid = cond s.asid (Some o.asid) None;
   nxs = s.nxs;
 }
 
@@ -58,16 +60,20 @@ abbrev pub is_width_of : Work → Entry → Bool
 is_width_of w e = cond w.wide e.wide (not e.wide)
 
 -- "it is non-leaf above the TTL level or a leaf at it"
+abbrev pub is_at_level : Option ℤ → Entry → Bool
+is_at_level None e = true
+is_at_level (Some l) e = cond e.leaf (same_level e.level l) (lt_z e.level l)
+
 abbrev pub is_at_hint : Work → Entry → Bool
-is_at_hint w e = cond e.leaf (same_level e.level w.level) (lt_z e.level w.level)
+is_at_hint w e = is_at_level w.level e
 
 -- "TTL 00, or its width is the operation's and it is ..."
 abbrev pub is_hinted : Work → Entry → Bool
-is_hinted w e = not w.hinted || (is_width_of w e && is_at_hint w e)
+is_hinted w e = is_none w.level || (is_width_of w e && is_at_hint w e)
 
 -- "another width needs TTL 00 and D128"
 abbrev pub has_width : Work → Entry → Bool
-has_width w e = is_width_of w e || (not w.hinted && w.d128)
+has_width w e = is_width_of w e || (is_none w.level && w.d128)
 
 -- "it is a leaf if the name has L"
 abbrev pub is_leaf_of : Work → Entry → Bool
@@ -75,7 +81,7 @@ is_leaf_of w e = not w.leaves || e.leaf
 
 -- "where an ASID applies, it agrees or the leaf is global"
 abbrev pub is_asid_of : Work → Entry → Bool
-is_asid_of w e = not w.one || eqb e.asid w.asid || (e.leaf && e.global)
+is_asid_of w e = is_same_asid w.asid e || (e.leaf && e.global)
 
 -- "it has XS 0 if the operation is NXS"
 abbrev pub is_xs_of : Work → Entry → Bool

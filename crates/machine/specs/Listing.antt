@@ -1,5 +1,5 @@
 -- 01, "The listing program": the text that a piece of A64 code gives.
-use Rattle.std.specs.Prelude.{ℕ, ◌+◌, ◌*◌, ◌-◌, ◌%◌, ◌^◌, Bool, cond, not, List, [], ◌∷◌, ◌++◌, eqb, leb, length, take}
+use Rattle.std.specs.Prelude.{ℕ, ◌+◌, ◌*◌, ◌-◌, ◌%◌, ◌^◌, Bool, cond, not, List, [], ◌∷◌, ◌++◌, eqb, leb, length, take, Option, Some, None}
 use Rattle.machine.specs.declared.operation.Name.{Name}
 use Rattle.machine.specs.declared.operation.Name.TheVariants.{
   RVAE1,
@@ -16,8 +16,6 @@ use Rattle.machine.specs.declared.operation.Name.TheVariants.{
 use Rattle.machine.specs.declared.operation.Share.{Share}
 use Rattle.machine.specs.declared.operation.Share.TheVariants.{Local, Inner, Outer}
 use Rattle.machine.specs.declared.operation.Operation.{Operation}
-use Rattle.machine.specs.declared.operation.Decoded.{Decoded}
-use Rattle.machine.specs.declared.operation.Decoded.TheVariants.{Known, Unknown}
 use Rattle.machine.specs.Text.{bytes, decimal_of}
 use Rattle.machine.specs.Word.{read_of, is_odd_pair}
 
@@ -70,9 +68,9 @@ abbrev pub is_listed : Operation → Bool
 is_listed op = not (is_odd_pair op)
 
 -- the line of what a word is, at an offset (modulo 2^64), or nothing
-abbrev pub shown_as : ℕ → Decoded → List ℕ
-shown_as at (Known op) = cond (is_listed op) (line_of (at % 2 ^ 64) op) []
-shown_as at Unknown = []
+abbrev pub shown_as : ℕ → Option Operation → List ℕ
+shown_as at (Some op) = cond (is_listed op) (line_of (at % 2 ^ 64) op) []
+shown_as at None = []
 
 unfoldable pub line_at : ℕ → ℕ → List ℕ
 line_at at w = shown_as at (read_of w)

@@ -1,15 +1,13 @@
 -- 01, "Operands": what two words read as, and which words some fields are.
-use Rattle.std.specs.Prelude.{ℕ, ◌+◌, ◌*◌, ◌-◌, ◌/◌, ◌%◌, ◌^◌, ◌≤◌, ◌<◌, Bool, true, false, cond, not, ◌&&◌, ◌||◌, eqb, ltb, leb}
+use Rattle.std.specs.Prelude.{ℕ, ◌+◌, ◌*◌, ◌-◌, ◌/◌, ◌%◌, ◌^◌, ◌≤◌, ◌<◌, Bool, true, false, cond, not, ◌&&◌, ◌||◌, eqb, ltb, leb, Result, Ok, Err}
 use Rattle.laws.specs.Bits.{bits, down}
 use Rattle.laws.specs.Mask.{bit_of, mask_from}
 use Rattle.machine.specs.declared.operand.Form.{Form}
 use Rattle.machine.specs.declared.operand.Form.TheVariants.{TwoRangesAsid, TwoRanges, OneRange, Stage2Ns, Stage2NoNs}
 use Rattle.machine.specs.declared.operand.Told.{Told}
 use Rattle.machine.specs.declared.operand.Operand.{Operand}
-use Rattle.machine.specs.declared.operand.OperandRead.{OperandRead}
-use Rattle.machine.specs.declared.operand.OperandRead.TheVariants.{Fields, NoGranule}
-use Rattle.machine.specs.declared.operand.OperandWritten.{OperandWritten}
-use Rattle.machine.specs.declared.operand.OperandWritten.TheVariants.{Words, Refused}
+use Rattle.machine.specs.declared.refusal.Refusal.{Refusal}
+use Rattle.machine.specs.declared.refusal.Refusal.TheVariants as refusal
 
 -- "two ranges with ASID, two without, one range, stage 2 with NS (Secure), or stage 2 without"
 abbrev pub has_asid : Form → Bool
@@ -104,8 +102,8 @@ abbrev pub Within : Operand → Type 0
 Within o = (1 ≤ o.tg) × (o.tg < 4) × (o.scale < 4) × (o.num < 32) × (o.ttl < 4)
 
 -- "Operand reader: 6", "TG is 00"
-unfoldable pub operand_of : Told → ℕ → ℕ → OperandRead
-operand_of t xt xt2 = cond (eqb (tg_in xt) 0) NoGranule (Fields (fields_in t xt xt2))
+unfoldable pub operand_of : Told → ℕ → ℕ → Result Operand Refusal
+operand_of t xt xt2 = cond (eqb (tg_in xt) 0) (Err refusal.NoGranule) (Ok (fields_in t xt xt2))
 
 -- the field that holds the bits of an address where `address_of` looks for them
 unfoldable pub field_of : Told → ℕ → ℕ → ℕ
@@ -147,8 +145,8 @@ xt_of t o =
 unfoldable pub xt2_of : Told → Operand → ℕ
 xt2_of t o = cond t.tlbip (field_of t o.tg o.base) 0
 
-unfoldable pub words_of : Told → Operand → OperandWritten
-words_of t o = cond (is_writable t o) (Words (xt_of t o) (xt2_of t o)) Refused
+unfoldable pub words_of : Told → Operand → Result (ℕ × ℕ) Refusal
+words_of t o = cond (is_writable t o) (Ok (xt_of t o, xt2_of t o)) (Err refusal.Illegal)
 
 -- "Writing what was read gives the word with RES0 bits, ignored bits and such a TTL cleared.": the bits of Xt that stay. 63:48 are the
 -- ASID, or 63 is NS; 47:39 are TG, SCALE and NUM; 38:37 are TTL; 36:0 are a TLBI base.

@@ -1,20 +1,18 @@
 -- Documents 000 to 004: the pseudocode of their five operations, line by line, with the functions that it calls. FEAT_AA64 is given.
-use Rattle.std.specs.Prelude.{ℕ, Bool, true, false, cond, not, ◌&&◌, ◌||◌, eqb, ltb}
+use Rattle.std.specs.Prelude.{ℕ, Bool, true, false, cond, not, ◌&&◌, ◌||◌, eqb, ltb, Result, Ok, Err}
 use Rattle.laws.specs.Mask.{mask_from}
-use Rattle.machine.specs.declared.operation.Name.{Name}
 use Rattle.machine.specs.declared.operation.Name.TheVariants.{RVAE2, RVAAE1, RVALE3, RIPAS2LE1}
 use Rattle.machine.specs.declared.operation.Share.{Share}
 use Rattle.machine.specs.declared.operation.Share.TheVariants.{Local, Inner, Outer}
 use Rattle.machine.specs.declared.operation.Operation.{Operation}
 use Rattle.machine.specs.declared.processor.State.{State}
-use Rattle.machine.specs.declared.scope.Regime.{Regime}
 use Rattle.machine.specs.declared.scope.Regime.TheVariants.{EL10, EL20, EL2, EL3}
 use Rattle.machine.specs.declared.scope.Security.{Security}
 use Rattle.machine.specs.declared.scope.Security.TheVariants.{Secure, NonSecure, Realm, Root}
 use Rattle.machine.specs.declared.scope.Scope.{Scope}
-use Rattle.machine.specs.declared.scope.Access.{Access}
-use Rattle.machine.specs.declared.scope.Access.TheVariants.{Undefined, Trapped, NoEffect, Runs}
 use Rattle.machine.specs.Access.{reaches_by}
+use Rattle.machine.specs.declared.refusal.Refusal.{Refusal}
+use Rattle.machine.specs.declared.refusal.Refusal.TheVariants as refusal
 
 -- EL2Enabled(): EL2 is there, and EL3 is not, or NS is 1, or Secure EL2 is enabled
 abbrev pub page_el2_enabled : State → Bool
@@ -70,8 +68,8 @@ page_reached st s = mask_from (λ p. ltb p st.board.count && reaches_by s st.boa
 
 -- 000: AArch64_TLBIP_RVA(SecurityStateAtEL(EL2), Regime_EL2, VMID_NONE, Broadcast_NSH, TLBILevel_Any, attr, ..): "using
 -- the EL2 or EL2&0 translation regime, as determined by the Effective value of HCR_EL2.E2H", with the ASID "When ELIsInHost(EL2)"
-abbrev pub rva2 : State → Bool → Access
-rva2 st exclude_xs = Runs (record {
+abbrev pub rva2 : State → Bool → Result Scope Refusal
+rva2 st exclude_xs = Ok (record {
   regime = cond (page_host st) EL20 EL2;
   security = page_security st;
   vmid = 0;
@@ -83,20 +81,20 @@ rva2 st exclude_xs = Runs (record {
 })
 
 -- TLBIP RVAE2, TLBIP RVAE2NXS
-abbrev pub page000 : State → Bool → Access
+abbrev pub page000 : State → Bool → Result Scope Refusal
 page000 st nxs =
-    cond (not st.features.d128) Undefined
-    (cond (nxs && not st.features.xs) Undefined
-    (cond (eqb st.el 0) Undefined
-    (cond (eqb st.el 1) (cond (page_nv st) (Trapped 0x14) Undefined)
+    cond (not st.features.d128) (Err refusal.Undefined)
+    (cond (nxs && not st.features.xs) (Err refusal.Undefined)
+    (cond (eqb st.el 0) (Err refusal.Undefined)
+    (cond (eqb st.el 1) (cond (page_nv st) (Err (refusal.Trapped 0x14)) (Err refusal.Undefined))
     (cond (eqb st.el 2) (rva2 st nxs)
-    (cond (not (page_el2_enabled st)) Undefined
-    (cond (st.features.rme && not (page_valid_el2 st)) NoEffect
+    (cond (not (page_el2_enabled st)) (Err refusal.Undefined)
+    (cond (st.features.rme && not (page_valid_el2 st)) (Err refusal.NoEffect)
     (rva2 st nxs)))))))
 
 -- 001: AArch64.TLBI_RVAA(SecurityStateAtEL(EL1), Regime_EL10, VMID[], Shareability_ISH, TLBILevel_Any, attr, ..)
-abbrev pub rvaa10 : State → Bool → Access
-rvaa10 st exclude_xs = Runs (record {
+abbrev pub rvaa10 : State → Bool → Result Scope Refusal
+rvaa10 st exclude_xs = Ok (record {
   regime = EL10;
   security = page_security st;
   vmid = page_vmid st;
@@ -108,8 +106,8 @@ rvaa10 st exclude_xs = Runs (record {
 })
 
 -- AArch64.TLBI_RVAA(SecurityStateAtEL(EL2), Regime_EL20, VMID_NONE, Shareability_ISH, TLBILevel_Any, attr, ..)
-abbrev pub rvaa20 : State → Bool → Access
-rvaa20 st exclude_xs = Runs (record {
+abbrev pub rvaa20 : State → Bool → Result Scope Refusal
+rvaa20 st exclude_xs = Ok (record {
   regime = EL20;
   security = page_security st;
   vmid = 0;
@@ -121,33 +119,33 @@ rvaa20 st exclude_xs = Runs (record {
 })
 
 -- TLBI RVAAE1IS, "present only when FEAT_TLBIRANGE is implemented"
-abbrev pub page001 : State → Access
+abbrev pub page001 : State → Result Scope Refusal
 page001 st =
-    cond (not st.features.tlbirange) Undefined
-    (cond (eqb st.el 0) Undefined
+    cond (not st.features.tlbirange) (Err refusal.Undefined)
+    (cond (eqb st.el 0) (Err refusal.Undefined)
     (cond (eqb st.el 1)
-    (cond (page_el2_enabled st && st.hcr.ttlb) (Trapped 0x18)
-    (cond (page_el2_enabled st && st.hcr.ttlbis) (Trapped 0x18)
+    (cond (page_el2_enabled st && st.hcr.ttlb) (Err (refusal.Trapped 0x18))
+    (cond (page_el2_enabled st && st.hcr.ttlbis) (Err (refusal.Trapped 0x18))
     (cond
     (page_el2_enabled st
     && st.features.fgt
     && (not st.present.el3 || st.scr.fgten)
     && st.traps.rvaae1.inner)
-    (Trapped 0x18)
+    (Err (refusal.Trapped 0x18))
     (cond (st.features.xs && st.features.hcx && page_hcrx_enabled st && st.hcrx.fnxs) (rvaa10 st true) (rvaa10 st false)))))
     (cond (eqb st.el 2)
     (cond (page_host_bits st) (rvaa20 st false) (rvaa10 st false))
     (cond (page_host_bits st) (rvaa20 st false) (rvaa10 st false)))))
 
 -- TLBI RVAAE1ISNXS
-abbrev pub page001nxs : State → Access
+abbrev pub page001nxs : State → Result Scope Refusal
 page001nxs st =
-    cond (not st.features.tlbirange) Undefined
-    (cond (not st.features.xs) Undefined
-    (cond (eqb st.el 0) Undefined
+    cond (not st.features.tlbirange) (Err refusal.Undefined)
+    (cond (not st.features.xs) (Err refusal.Undefined)
+    (cond (eqb st.el 0) (Err refusal.Undefined)
     (cond (eqb st.el 1)
-    (cond (page_el2_enabled st && st.hcr.ttlb) (Trapped 0x18)
-    (cond (page_el2_enabled st && st.hcr.ttlbis) (Trapped 0x18)
+    (cond (page_el2_enabled st && st.hcr.ttlb) (Err (refusal.Trapped 0x18))
+    (cond (page_el2_enabled st && st.hcr.ttlbis) (Err (refusal.Trapped 0x18))
     (cond
     (page_el2_enabled st
     && st.features.fgt
@@ -155,7 +153,7 @@ page001nxs st =
     && st.features.hcx
     && (not (page_hcrx_enabled st) || not st.hcrx.fgtnxs)
     && st.traps.rvaae1.inner)
-    (Trapped 0x18)
+    (Err (refusal.Trapped 0x18))
     (rvaa10 st true))))
     (cond (eqb st.el 2)
     (cond (page_host_bits st) (rvaa20 st true) (rvaa10 st true))
@@ -163,8 +161,8 @@ page001nxs st =
 
 -- 002: AArch64.TLBIP_VA(SecurityStateAtEL(EL3), Regime_EL3, VMID_NONE, Shareability_OSH, TLBILevel_Last, attr, ..); 004: AArch64_TLBI_RVA
 -- of the same, with Broadcast_OSH
-abbrev pub rva3 : State → Bool → Access
-rva3 st exclude_xs = Runs (record {
+abbrev pub rva3 : State → Bool → Result Scope Refusal
+rva3 st exclude_xs = Ok (record {
   regime = EL3;
   security = page_el3_security st;
   vmid = 0;
@@ -176,18 +174,18 @@ rva3 st exclude_xs = Runs (record {
 })
 
 -- TLBIP VALE3OS, TLBIP VALE3OSNXS, "present only when FEAT_D128 is implemented": its range twin is TLBIP RVALE3OS
-abbrev pub page002 : State → Bool → Access
+abbrev pub page002 : State → Bool → Result Scope Refusal
 page002 st nxs =
-    cond (not st.features.d128) Undefined
-    (cond (nxs && not st.features.xs) Undefined
-    (cond (eqb st.el 0) Undefined
-    (cond (eqb st.el 1) Undefined
-    (cond (eqb st.el 2) Undefined
+    cond (not st.features.d128) (Err refusal.Undefined)
+    (cond (nxs && not st.features.xs) (Err refusal.Undefined)
+    (cond (eqb st.el 0) (Err refusal.Undefined)
+    (cond (eqb st.el 1) (Err refusal.Undefined)
+    (cond (eqb st.el 2) (Err refusal.Undefined)
     (rva3 st nxs)))))
 
 -- 003: AArch64.TLBIP_RIPAS2(SecurityStateAtEL(EL1), Regime_EL10, VMID[], Shareability_ISH, TLBILevel_Last, attr, ..)
-abbrev pub ripas2 : State → Bool → Access
-ripas2 st exclude_xs = Runs (record {
+abbrev pub ripas2 : State → Bool → Result Scope Refusal
+ripas2 st exclude_xs = Ok (record {
   regime = EL10;
   security = page_security st;
   vmid = page_vmid st;
@@ -199,25 +197,25 @@ ripas2 st exclude_xs = Runs (record {
 })
 
 -- TLBIP RIPAS2LE1IS, TLBIP RIPAS2LE1ISNXS; the first line is 01's "TLBIP wants D128", the page has none
-abbrev pub page003 : State → Bool → Access
+abbrev pub page003 : State → Bool → Result Scope Refusal
 page003 st nxs =
-    cond (not st.features.d128) Undefined
-    (cond (nxs && not st.features.xs) Undefined
-    (cond (eqb st.el 0) Undefined
-    (cond (eqb st.el 1) (cond (page_nv st) (Trapped 0x14) Undefined)
+    cond (not st.features.d128) (Err refusal.Undefined)
+    (cond (nxs && not st.features.xs) (Err refusal.Undefined)
+    (cond (eqb st.el 0) (Err refusal.Undefined)
+    (cond (eqb st.el 1) (cond (page_nv st) (Err (refusal.Trapped 0x14)) (Err refusal.Undefined))
     (cond (eqb st.el 2) (ripas2 st nxs)
-    (cond (not (page_el2_enabled st)) NoEffect
+    (cond (not (page_el2_enabled st)) (Err refusal.NoEffect)
     (ripas2 st nxs))))))
 
 -- TLBI RVALE3OS, TLBI RVALE3OSNXS
-abbrev pub page004 : State → Bool → Access
+abbrev pub page004 : State → Bool → Result Scope Refusal
 page004 st nxs =
-    cond (not (st.features.tlbirange && st.features.tlbios)) Undefined
-    (cond (nxs && not st.features.xs) Undefined
-    (cond (eqb st.el 0) Undefined
-    (cond (eqb st.el 1) Undefined
-    (cond (eqb st.el 2) Undefined
-    (cond (st.features.rme && not (page_valid_el3 st)) NoEffect
+    cond (not (st.features.tlbirange && st.features.tlbios)) (Err refusal.Undefined)
+    (cond (nxs && not st.features.xs) (Err refusal.Undefined)
+    (cond (eqb st.el 0) (Err refusal.Undefined)
+    (cond (eqb st.el 1) (Err refusal.Undefined)
+    (cond (eqb st.el 2) (Err refusal.Undefined)
+    (cond (st.features.rme && not (page_valid_el3 st)) (Err refusal.NoEffect)
     (rva3 st nxs))))))
 
 -- the operations of the pages, 002's by its range twin

@@ -1,14 +1,12 @@
 -- 01, "Operands": the range that fields mean, and where it is UNPREDICTABLE.
-use Rattle.std.specs.Prelude.{ℕ, ◌+◌, ◌*◌, ◌-◌, ◌%◌, ◌^◌, min, Bool, true, cond, not, eqb, pos}
+use Rattle.std.specs.Prelude.{ℕ, ◌+◌, ◌*◌, ◌-◌, ◌%◌, ◌^◌, min, Bool, true, cond, not, eqb, pos, Result, Ok, Err}
 use Rattle.machine.specs.declared.operand.Told.{Told}
 use Rattle.machine.specs.declared.operand.Operand.{Operand}
-use Rattle.machine.specs.declared.operand.OperandRead.{OperandRead}
-use Rattle.machine.specs.declared.operand.OperandRead.TheVariants.{Fields, NoGranule}
 use Rattle.machine.specs.declared.operand.Range.{Range}
-use Rattle.machine.specs.declared.operand.Ranged.{Ranged}
-use Rattle.machine.specs.declared.operand.Ranged.TheVariants as ranged
 use Rattle.machine.specs.Operand.{granule_exponent, operand_of}
 use Rattle.machine.specs.Span.{exponent_of}
+use Rattle.machine.specs.declared.refusal.Refusal.{Refusal}
+use Rattle.machine.specs.declared.refusal.Refusal.TheVariants as refusal
 
 -- "Length is (NUM + 1) times 2^(5 SCALE + 1) granules."
 unfoldable pub length_of : Operand → ℕ
@@ -38,9 +36,9 @@ is_unpredictable tlbip o =
     not (eqb (o.base % 2 ^ cond tlbip (tlbip_exponent o.tg o.ttl) (tlbi_exponent o.tg o.ttl)) 0)
 
 -- "6, 7": the operand's answer, in this order
-abbrev pub ranged_by : Bool → OperandRead → Ranged
-ranged_by tlbip (Fields o) = cond (is_unpredictable tlbip o) ranged.Unpredictable (ranged.Covers o (range_of o))
-ranged_by tlbip NoGranule = ranged.NoGranule
+abbrev pub ranged_by : Bool → Result Operand Refusal → Result (Operand × Range) Refusal
+ranged_by tlbip (Ok o) = cond (is_unpredictable tlbip o) (Err refusal.Unpredictable) (Ok (o, range_of o))
+ranged_by tlbip (Err r) = Err r
 
-unfoldable pub ranged_of : Told → ℕ → ℕ → Ranged
+unfoldable pub ranged_of : Told → ℕ → ℕ → Result (Operand × Range) Refusal
 ranged_of t xt xt2 = ranged_by t.tlbip (operand_of t xt xt2)

@@ -1,20 +1,17 @@
 -- 01, "Sizes" and "Entries": the shape of tables and lists, insert, and look up.
-use Rattle.std.specs.Prelude.{ℕ, ◌+◌, ◌*◌, ◌%◌, Bool, true, false, cond, not, ◌&&◌, ◌||◌, List, ◌≡◌, eqb, ltb, leb, length, get_or}
+use Rattle.std.specs.Prelude.{ℕ, ◌+◌, ◌*◌, ◌%◌, Bool, false, cond, not, ◌&&◌, ◌||◌, List, ◌≡◌, eqb, ltb, leb, length, get_or, Result, Ok, Err}
 use Rattle.laws.specs.Slots.{slots, holds_at, first, some, put}
 use Rattle.machine.specs.declared.entry.Company.{Company}
 use Rattle.machine.specs.declared.entry.Entry.{Entry}
 use Rattle.machine.specs.declared.processor.State.{State}
 use Rattle.machine.specs.declared.scope.Regime.{Regime}
-use Rattle.machine.specs.declared.table.Inserted.{Inserted}
-use Rattle.machine.specs.declared.table.Inserted.TheVariants as inserted
-use Rattle.machine.specs.declared.table.LookedUp.{LookedUp}
-use Rattle.machine.specs.declared.table.LookedUp.TheVariants as looked
-use Rattle.machine.specs.declared.table.SlotRead.{SlotRead}
-use Rattle.machine.specs.declared.table.SlotRead.TheVariants as slot
 use Rattle.machine.specs.State.{security_in, vmid_in, bad_state}
 use Rattle.machine.specs.Span.{in_span}
 use Rattle.machine.specs.Entry.{has_asids, span_of, is_legal}
 use Rattle.machine.specs.Tag.{flag, regime_number, security_number, tag_of, entry_at, is_entry}
+use Rattle.machine.specs.declared.refusal.Refusal.{Refusal}
+use Rattle.machine.specs.declared.refusal.Refusal.TheVariants as refusal
+use Rattle.machine.specs.declared.table.Match.{Match}
 
 -- "Shape is bad if the words aren't a multiple of three or are over 6,144 or 48.": of so many words, over the most
 abbrev pub has_shape : ℕ → ℕ → Bool
@@ -38,27 +35,25 @@ abbrev pub Kept : List ℕ → List ℕ → ℕ → Type 0
 Kept l m k = Holds m k (get_or l (3 * k) 0) (get_or l (3 * k + 1) 0) (get_or l (3 * k + 2) 0)
 
 -- a slot "reads back as every field and the output word it was given", or "as empty", if the table has it
-unfoldable pub slot_read_of : ℕ → List ℕ → SlotRead
+unfoldable pub slot_read_of : ℕ → List ℕ → Result (Entry × ℕ) Refusal
 slot_read_of k l =
     cond (is_table l)
-    (cond (ltb k (slots l)) (cond (holds_at slot_reads l k) (slot.Holds (slot_entry l k) (get_or l (3 * k + 2) 0)) slot.Empty) slot.NoSlot)
-    slot.BadShape
+    (cond (ltb k (slots l)) (cond (holds_at slot_reads l k) (Ok (slot_entry l k, get_or l (3 * k + 2) 0)) (Err refusal.Empty)) (Err refusal.NoSlot))
+    (Err refusal.BadShape)
 
 -- "reads as empty"
 abbrev pub is_empty : ℕ → ℕ → ℕ → Bool
 is_empty base tag out = not (is_entry base tag)
 
 -- "Insert takes and returns the lowest slot that reads as empty." "Insert: 13, 8, 9."
-unfoldable pub inserted_of : Entry → List ℕ → Inserted
+unfoldable pub inserted_of : Entry → List ℕ → Result ℕ Refusal
 inserted_of e l =
-    cond (is_table l) (cond (is_legal e) (cond (some is_empty l) (inserted.At (first is_empty l)) inserted.Full) inserted.Illegal) inserted.BadShape
+    cond (is_table l) (cond (is_legal e) (cond (some is_empty l) (Ok (first is_empty l)) (Err refusal.Full)) (Err refusal.Illegal)) (Err refusal.BadShape)
 
 -- what the table holds then: the slot that was taken is the entry's; "Every answer but 0 leaves all lent memory unchanged."
-abbrev pub filled : Inserted → Entry → ℕ → List ℕ → List ℕ
-filled (inserted.At k) e out l = put k e.base (tag_of e) out l
-filled inserted.BadShape e out l = l
-filled inserted.Illegal e out l = l
-filled inserted.Full e out l = l
+abbrev pub filled : Result ℕ Refusal → Entry → ℕ → List ℕ → List ℕ
+filled (Ok k) e out l = put k e.base (tag_of e) out l
+filled (Err r) e out l = l
 
 unfoldable pub insert_table : Entry → ℕ → List ℕ → List ℕ
 insert_table e out l = filled (inserted_of e l) e out l
@@ -92,14 +87,14 @@ unfoldable pub matches : Company → ℕ → ℕ → ℕ → ℕ → ℕ → ℕ
 matches c own asid address base tag out = is_entry base tag && translates c own asid address (entry_at base tag)
 
 -- "It returns the slot, output word and slots examined: position plus one, or all."
-abbrev pub found_at : ℕ → List ℕ → LookedUp
-found_at k l = looked.Found (record { slot = k; out = get_or l (3 * k + 2) 0; examined = k + 1 })
+abbrev pub found_at : ℕ → List ℕ → Result Match Refusal
+found_at k l = Ok (record { slot = k; out = get_or l (3 * k + 2) 0; examined = k + 1 })
 
 -- the lowest slot that a test holds at, or none
-abbrev pub found_by : (ℕ → ℕ → ℕ → Bool) → List ℕ → LookedUp
-found_by p l = cond (some p l) (found_at (first p l) l) (looked.NotFound (slots l))
+abbrev pub found_by : (ℕ → ℕ → ℕ → Bool) → List ℕ → Result Match Refusal
+found_by p l = cond (some p l) (found_at (first p l) l) (Err (refusal.NotFound (slots l)))
 
 -- "Look up: 13, 2, 14."
-unfoldable pub looked_up_of : State → Regime → ℕ → ℕ → List ℕ → LookedUp
+unfoldable pub looked_up_of : State → Regime → ℕ → ℕ → List ℕ → Result Match Refusal
 looked_up_of st r asid address l =
-    cond (is_table l) (cond (bad_state st) looked.BadState (found_by (matches (stage1_of st r) st.board.own asid address) l)) looked.BadShape
+    cond (is_table l) (cond (bad_state st) (Err refusal.BadState) (found_by (matches (stage1_of st r) st.board.own asid address) l)) (Err refusal.BadShape)

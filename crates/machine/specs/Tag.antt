@@ -1,5 +1,5 @@
 -- 01, "Sizes": how an entry stands in the base and the tag of a slot. docs/TAG.md has the placing as a table.
-use Rattle.std.specs.Prelude.{ℕ, zero, suc, ◌+◌, ◌*◌, ◌^◌, ◌<◌, Bool, true, false, cond, not, ◌&&◌, eqb, pos, ◌-ℤ◌}
+use Rattle.std.specs.Prelude.{ℕ, zero, suc, ◌+◌, ◌*◌, ◌^◌, ◌<◌, Bool, cond, ◌&&◌, eqb, pos, ◌-ℤ◌}
 use Rattle.laws.specs.Bits.{bits}
 use Rattle.laws.specs.Mask.{bit_of}
 use Rattle.machine.specs.declared.entry.Company.{Company}

@@ -1,5 +1,5 @@
 -- 01, "Judging a list": targets, and which entries a target asks for.
-use Rattle.std.specs.Prelude.{ℕ, ◌^◌, Bool, cond, not, ◌&&◌, ◌||◌, eqb, ltb, leb}
+use Rattle.std.specs.Prelude.{ℕ, ◌^◌, Bool, cond, not, ◌&&◌, ◌||◌, eqb, ltb, leb, is_none}
 use Rattle.laws.specs.Bits.{bits}
 use Rattle.laws.specs.Mask.{bit_of}
 use Rattle.machine.specs.declared.entry.Company.{Company}
@@ -8,7 +8,7 @@ use Rattle.machine.specs.declared.judge.Target.{Target}
 use Rattle.machine.specs.declared.processor.State.{State}
 use Rattle.machine.specs.Operand.{is_granule}
 use Rattle.machine.specs.Span.{meets_range}
-use Rattle.machine.specs.Entry.{is_company, has_asids, in_reach, span_of}
+use Rattle.machine.specs.Entry.{is_company, has_asids, in_reach, is_same_asid, span_of}
 use Rattle.machine.specs.Table.{same_company}
 
 -- "a non-empty set of existing processors"
@@ -25,7 +25,7 @@ unfoldable pub is_target : State → Target → Bool
 is_target st t =
     is_company t.company
     && is_granule t.granule
-    && (not t.one || has_asids t.company)
+    && (is_none t.asid || has_asids t.company)
     && are_processors st t.processors
     && are_addresses t.company t.first t.last
 
@@ -49,7 +49,7 @@ is_of_kind t e = not t.leaves || e.leaf
 
 -- "one ASID or all"; "A one-ASID target includes global leaves"
 abbrev pub is_of_asid : Target → Entry → Bool
-is_of_asid t e = not t.one || eqb e.asid t.asid || (e.leaf && e.global)
+is_of_asid t e = is_same_asid t.asid e || (e.leaf && e.global)
 
 -- its span overlaps the target addresses
 abbrev pub is_within : Target → Entry → Bool

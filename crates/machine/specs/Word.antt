@@ -1,5 +1,5 @@
 -- 01, "Instruction words": which words are operations, and which word an operation is.
-use Rattle.std.specs.Prelude.{ℕ, ◌+◌, ◌*◌, ◌/◌, ◌%◌, ◌^◌, Bool, cond, ◌&&◌, ◌||◌, eqb, ltb}
+use Rattle.std.specs.Prelude.{ℕ, ◌+◌, ◌*◌, ◌/◌, ◌%◌, ◌^◌, Bool, cond, ◌&&◌, ◌||◌, eqb, ltb, Option, Some, None}
 use Rattle.machine.specs.declared.operation.Name.{Name}
 use Rattle.machine.specs.declared.operation.Name.TheVariants.{
   RVAE1,
@@ -18,52 +18,46 @@ use Rattle.machine.specs.declared.operation.Family.TheVariants.{E1, E2, E3, Stag
 use Rattle.machine.specs.declared.operation.Share.{Share}
 use Rattle.machine.specs.declared.operation.Share.TheVariants.{Local, Inner, Outer}
 use Rattle.machine.specs.declared.operation.Operation.{Operation}
-use Rattle.machine.specs.declared.operation.Row.{Row}
-use Rattle.machine.specs.declared.operation.Row.TheVariants.{Named, Unnamed}
-use Rattle.machine.specs.declared.operation.Decoded.{Decoded}
-use Rattle.machine.specs.declared.operation.Decoded.TheVariants.{Known, Unknown}
-use Rattle.machine.specs.declared.operation.Built.{Built}
-use Rattle.machine.specs.declared.operation.Built.TheVariants.{Word, Unfit}
 
 -- "op1 0: ... op2 1 RVAE1, 3 RVAAE1, 5 RVALE1, 7 RVAALE1."
-abbrev pub row_e1 : Share → ℕ → Row
+abbrev pub row_e1 : Share → ℕ → Option (Name × Share)
 row_e1 s n =
-    cond (eqb n 1) (Named RVAE1 s)
-    (cond (eqb n 3) (Named RVAAE1 s)
-    (cond (eqb n 5) (Named RVALE1 s)
-    (cond (eqb n 7) (Named RVAALE1 s) Unnamed)))
+    cond (eqb n 1) (Some (RVAE1, s))
+    (cond (eqb n 3) (Some (RVAAE1, s))
+    (cond (eqb n 5) (Some (RVALE1, s))
+    (cond (eqb n 7) (Some (RVAALE1, s)) None)))
 
 -- "op1 4 and 6: ... op2 1 RVAE2/RVAE3, 5 RVALE2/RVALE3.": the names at op2 1 and 5
-abbrev pub row_el : Name → Name → Share → ℕ → Row
-row_el plain last s n = cond (eqb n 1) (Named plain s) (cond (eqb n 5) (Named last s) Unnamed)
+abbrev pub row_el : Name → Name → Share → ℕ → Option (Name × Share)
+row_el plain last s n = cond (eqb n 1) (Some (plain, s)) (cond (eqb n 5) (Some (last, s)) None)
 
 -- the row of a shareability that CRm gave
-abbrev pub shared_row : ℕ → Share → ℕ → Row
+abbrev pub shared_row : ℕ → Share → ℕ → Option (Name × Share)
 shared_row o s n =
     cond (eqb o 0) (row_e1 s n)
     (cond (eqb o 4) (row_el RVAE2 RVALE2 s n)
-    (cond (eqb o 6) (row_el RVAE3 RVALE3 s n) Unnamed))
+    (cond (eqb o 6) (row_el RVAE3 RVALE3 s n) None))
 
 -- "op1 4, CRm 0: op2 2 RIPAS2E1IS, 6 RIPAS2LE1IS. CRm 4: 2 RIPAS2E1, 6 RIPAS2LE1, 3 RIPAS2E1OS, 7 RIPAS2LE1OS."
-abbrev pub stage2_row : ℕ → ℕ → Row
+abbrev pub stage2_row : ℕ → ℕ → Option (Name × Share)
 stage2_row m n =
     cond (eqb m 0)
-    (cond (eqb n 2) (Named RIPAS2E1 Inner)
-    (cond (eqb n 6) (Named RIPAS2LE1 Inner) Unnamed))
+    (cond (eqb n 2) (Some (RIPAS2E1, Inner))
+    (cond (eqb n 6) (Some (RIPAS2LE1, Inner)) None))
     (cond (eqb m 4)
-    (cond (eqb n 2) (Named RIPAS2E1 Local)
-    (cond (eqb n 6) (Named RIPAS2LE1 Local)
-    (cond (eqb n 3) (Named RIPAS2E1 Outer)
-    (cond (eqb n 7) (Named RIPAS2LE1 Outer) Unnamed))))
-    Unnamed)
+    (cond (eqb n 2) (Some (RIPAS2E1, Local))
+    (cond (eqb n 6) (Some (RIPAS2LE1, Local))
+    (cond (eqb n 3) (Some (RIPAS2E1, Outer))
+    (cond (eqb n 7) (Some (RIPAS2LE1, Outer)) None))))
+    None)
 
 -- "Each (op1, CRm, op2) is decided by its numbers", op1 o, CRm m and op2 n: "CRm 2 IS, 5 OS, 6 local"
-unfoldable pub row_of : ℕ → ℕ → ℕ → Row
+unfoldable pub row_of : ℕ → ℕ → ℕ → Option (Name × Share)
 row_of o m n =
     cond (eqb m 2) (shared_row o Inner n)
     (cond (eqb m 5) (shared_row o Outer n)
     (cond (eqb m 6) (shared_row o Local n)
-    (cond (eqb o 4) (stage2_row m n) Unnamed)))
+    (cond (eqb o 4) (stage2_row m n) None)))
 
 -- "SYS is 0xD5080000 and SYSP (TLBIP) 0xD5480000"; what stands above op1, bits 31:19, is fixed by it
 abbrev pub fixed_of : ℕ → ℕ
@@ -92,20 +86,20 @@ abbrev pub rt_in : ℕ → ℕ
 rt_in w = w % 32
 
 -- the operation of a row, with the other parts
-abbrev pub of_row : Row → Bool → Bool → ℕ → Decoded
-of_row (Named name share) nxs tlbip rt = Known (record { name = name; share = share; nxs = nxs; tlbip = tlbip; rt = rt })
-of_row Unnamed nxs tlbip rt = Unknown
+abbrev pub of_row : Option (Name × Share) → Bool → Bool → ℕ → Option Operation
+of_row (Some (name, share)) nxs tlbip rt = Some (record { name = name; share = share; nxs = nxs; tlbip = tlbip; rt = rt })
+of_row None nxs tlbip rt = None
 
 -- the fixed bits of SYS or SYSP; "CRn is 8, or 9 for NXS."
 abbrev pub is_fixed : ℕ → Bool
 is_fixed w = (is_sys w || is_sysp w) && (eqb (crn_in w) 8 || eqb (crn_in w) 9)
 
 -- other fixed bits, another CRn and unknown numbers are not one of the operations
-unfoldable pub read_of : ℕ → Decoded
+unfoldable pub read_of : ℕ → Option Operation
 read_of w =
     cond (is_fixed w)
     (of_row (row_of (op1_in w) (crm_in w) (op2_in w)) (eqb (crn_in w) 9) (is_sysp w) (rt_in w))
-    Unknown
+    None
 
 -- "E1 names", "E2 names", "E3 names" and "RIPAS2"
 abbrev pub family_of : Name → Family
@@ -173,8 +167,8 @@ word_of op =
     + op.rt
 
 -- an Rt of 32 or more has no place in a word
-unfoldable pub built_of : Operation → Built
-built_of op = cond (ltb op.rt 32) (Word (word_of op)) Unfit
+unfoldable pub built_of : Operation → Option ℕ
+built_of op = cond (ltb op.rt 32) (Some (word_of op)) None
 
 -- "SYSP with odd Rt below 31"
 abbrev pub is_odd_pair : Operation → Bool

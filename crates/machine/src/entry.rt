@@ -2,7 +2,7 @@
 use crate::scope::{Regime, Security};
 
 // Whose an entry is: regime, security state, VMID, stage, and IPA space, as NS.
-#[derive(Clone, Copy)]
+#[derive(Clone, Copy, PartialEq, Eq)]
 pub struct Company {
     pub regime: Regime,
     pub security: Security,
@@ -12,7 +12,8 @@ pub struct Company {
 }
 
 // `wide` says that the width is 128 bits; the granule is a number as TG has it; the base is an address.
-#[derive(Clone, Copy)]
+// Processor, granule and level stay numbers: insert is given ones that break a rule, and refuses them.
+#[derive(Clone, Copy, PartialEq, Eq)]
 pub struct Entry {
     pub processor: u8,
     pub company: Company,

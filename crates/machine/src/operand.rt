@@ -1,7 +1,7 @@
-// An operand by its fields, what its reader and writer are told and answer, and the range it means.
+// An operand by its fields, what its reader and writer are told, and the range it means.
 
 // Two ranges with ASID, two without, one range, stage 2 with NS (Secure), or stage 2 without.
-#[derive(Clone, Copy)]
+#[derive(Clone, Copy, PartialEq, Eq)]
 pub enum Form {
     TwoRangesAsid,
     TwoRanges,
@@ -20,7 +20,7 @@ pub struct Told {
 }
 
 // The fields as numbers, so that a writer can be given one that does not fit; the base is an address.
-#[derive(Clone, Copy)]
+#[derive(Clone, Copy, PartialEq, Eq)]
 pub struct Operand {
     pub asid: u64,
     pub ns: u64,
@@ -31,31 +31,9 @@ pub struct Operand {
     pub base: u64,
 }
 
-// What two words read as: fields, or that TG is 00.
-#[derive(Clone, Copy)]
-pub enum OperandRead {
-    Fields(Operand),
-    NoGranule,
-}
-
-// The words Xt and Xt2 of some fields, or that a field or the base cannot be written.
-#[derive(Clone, Copy)]
-pub enum OperandWritten {
-    Words(u64, u64),
-    Refused,
-}
-
 // First and last address, both included.
 #[derive(Clone, Copy)]
 pub struct Range {
     pub first: u64,
     pub last: u64,
-}
-
-// What an operand asks for: fields and a range, or that TG is 00, or that the range is UNPREDICTABLE.
-#[derive(Clone, Copy)]
-pub enum Ranged {
-    Covers(Operand, Range),
-    NoGranule,
-    Unpredictable,
 }

@@ -1,7 +1,7 @@
-// An operation by its parts, and the answers about instruction words.
+// An operation by its parts.
 
 // The names, as Arm writes them, without shareability and NXS.
-#[derive(Clone, Copy)]
+#[derive(Clone, Copy, PartialEq, Eq)]
 pub enum Name {
     RVAE1,
     RVAAE1,
@@ -16,7 +16,7 @@ pub enum Name {
 }
 
 // The names by what they act on: E1, E2 and E3 names, and RIPAS2.
-#[derive(Clone, Copy)]
+#[derive(Clone, Copy, PartialEq, Eq)]
 pub enum Family {
     E1,
     E2,
@@ -25,7 +25,7 @@ pub enum Family {
 }
 
 // Local, IS and OS.
-#[derive(Clone, Copy)]
+#[derive(Clone, Copy, PartialEq, Eq)]
 pub enum Share {
     Local,
     Inner,
@@ -34,32 +34,11 @@ pub enum Share {
 
 // TLBI, or TLBIP where `tlbip` holds; `rt` is 0 to 31 in every word. In this order the compiler loads each part by itself: two at once would
 // wait for the stores of one byte each that wrote them.
-#[derive(Clone, Copy)]
+#[derive(Clone, Copy, PartialEq, Eq)]
 pub struct Operation {
     pub tlbip: bool,
     pub nxs: bool,
     pub share: Share,
     pub name: Name,
     pub rt: u8,
-}
-
-// What op1, CRm and op2 name.
-#[derive(Clone, Copy)]
-pub enum Row {
-    Named(Name, Share),
-    Unnamed,
-}
-
-// What a word is: one of the operations, or not.
-#[derive(Clone, Copy)]
-pub enum Decoded {
-    Known(Operation),
-    Unknown,
-}
-
-// The word of an operation, or that no word has room for its Rt.
-#[derive(Clone, Copy)]
-pub enum Built {
-    Word(u64),
-    Unfit,
 }

@@ -76,6 +76,7 @@ pub struct Ds {
 
 // The own number, how many processors there are, and the inner and the outer domain of each. Domains at or above the count have
 // no say.
+// Two arrays of eight and a count, as C's record has them: no heap, and what stands above the count is in no rule.
 #[derive(Clone, Copy)]
 pub struct Board {
     pub own: u8,
@@ -84,6 +85,7 @@ pub struct Board {
     pub outer: [u8; 8],
 }
 
+// The exception level stays a number: a state is given one above 3, and is bad.
 #[derive(Clone, Copy)]
 pub struct State {
     pub el: u8,

@@ -1,7 +1,7 @@
-// What the access rules answer, and what an operation that runs acts on.
+// What an operation that runs acts on.
 
 // EL1&0, EL2&0, EL2 and EL3.
-#[derive(Clone, Copy)]
+#[derive(Clone, Copy, PartialEq, Eq)]
 pub enum Regime {
     EL10,
     EL20,
@@ -9,7 +9,7 @@ pub enum Regime {
     EL3,
 }
 
-#[derive(Clone, Copy)]
+#[derive(Clone, Copy, PartialEq, Eq)]
 pub enum Security {
     Secure,
     NonSecure,
@@ -19,7 +19,7 @@ pub enum Security {
 
 // What an operation acts on, before its operand is read: `reached` has a bit for each processor, number 0 lowest;
 // `asid` says that an ASID applies, `last` that the name has L, `nxs` that it acts as NXS.
-#[derive(Clone, Copy)]
+#[derive(Clone, Copy, PartialEq, Eq)]
 pub struct Scope {
     pub regime: Regime,
     pub security: Security,
@@ -29,13 +29,4 @@ pub struct Scope {
     pub asid: bool,
     pub last: bool,
     pub nxs: bool,
-}
-
-// UNDEFINED, trapped to EL2 with a number, ends without effect, or runs.
-#[derive(Clone, Copy)]
-pub enum Access {
-    Undefined,
-    Trapped(u8),
-    NoEffect,
-    Runs(Scope),
 }

@@ -1,2 +1,2 @@
--- Laws of small numbers for the reader and the writer.
-pub mod Numbers
+-- Laws of shifts for addresses.
+pub mod Shifts

@@ -1,90 +1,65 @@
-// The base as a field of an operand and as an address. TG is 1 to 3 wherever it is asked for.
+// The base as a field of an operand and as an address.
 ghost use Rattle.std.specs.Prelude.{◌+◌, ◌-◌, ◌/◌, ◌%◌, ◌^◌, ◌≤◌, ◌<◌, cond, ◌≡◌};
 ghost use Rattle.laws.specs.Bits.{down};
-ghost use Rattle.machine.specs.Operand.{granule_exponent, unit_exponent, extend, address_of, base_in};
+ghost use Rattle.machine.specs.Operand.{granule_exponent, extend, address_of, field_of, base_in};
 
 use crate::form::copies_top;
-use crate::granule::in_bytes;
+use crate::granule::{Granule, in_units};
 use machine::Told;
 
-// The unit of a TLBI base, as the TG whose granule it is.
-pub fn unit_tg(unit64k: bool, tg: u64) -> u64
-    requires { (1 ≤ tg) × (tg < 4) }
-    ensures { (granule_exponent result ≡ unit_exponent unit64k tg) × (1 ≤ result) × (result < 4) }
+// The copies of the top bit of an address of so many bits.
+#[tactic(auto, using(crate::proofs::Shifts::ones_above))]
+fn copies_above(bits: u64) -> u64
+    requires { bits < 64 }
+    ensures { result ≡ 2 ^ 64 - 2 ^ bits }
 {
-    if unit64k { 3 } else { tg }
+    u64::MAX << bits
 }
 
-// The copies of the top bit, above 37 bits in some unit.
-fn copies_above(unit: u64) -> u64
-    requires { (1 ≤ unit) × (unit < 4) }
-    ensures { result ≡ 2 ^ 64 - 2 ^ (37 + granule_exponent unit) }
+// A field of so many bits in units of 2^exponent bytes, as an address.
+fn extend(bits: u64, exponent: u64, copied: bool, field: u64) -> u64
+    requires { (1 ≤ bits) × (field < 2 ^ bits) × (bits + exponent < 64) }
+    ensures { result ≡ extend bits exponent copied field }
 {
-    0xFFFFFFFFFFFFFFFF << (47 + 2 * unit)
-}
-
-pub fn tlbi_address(copied: bool, unit: u64, field: u64) -> u64
-    requires { (1 ≤ unit) × (unit < 4) × (field < 2 ^ 37) }
-    ensures { result ≡ extend 37 (granule_exponent unit) copied field }
-{
-    let address = in_bytes(unit, field);
-    if copied & (0x1000000000 <= field) {
-        let copies = copies_above(unit);
-        return address + copies;
+    let address = in_units(bits, exponent, field);
+    if copied && 1 << (bits - 1) <= field {
+        address + copies_above(bits + exponent)
+    } else {
+        address
     }
-    address
 }
 
 // A field in units of 4 KiB without what is below the granule.
-fn whole_granules(tg: u64, field: u64) -> u64
-    requires { (1 ≤ tg) × (tg < 4) }
-    ensures { (result ≡ down (granule_exponent tg - 12) field) × (result ≤ field) }
+fn whole_granules(granule: Granule, field: u64) -> u64
+    ensures { (result ≡ down (granule_exponent granule - 12) field) × (result ≤ field) }
 {
-    match tg {
-        1 => field,
-        2 => field / 4 * 4,
-        _ => field / 16 * 16,
-    }
-}
-
-pub fn tlbip_address(copied: bool, tg: u64, field: u64) -> u64
-    requires { (1 ≤ tg) × (tg < 4) × (field < 2 ^ 44) }
-    ensures { result ≡ extend 44 12 copied (down (granule_exponent tg - 12) field) }
-{
-    let whole = whole_granules(tg, field);
-    if copied & (0x80000000000 <= whole) {
-        whole * 0x1000 + 0xFF00000000000000
-    } else {
-        whole * 0x1000
-    }
+    let below = granule.exponent() - 12;
+    field >> below << below
 }
 
 #[tactic(auto, unfolding(machine::specs::Operand::address_of))]
-pub fn address_of(told: Told, tg: u64, field: u64) -> u64
-    requires { (1 ≤ tg) × (tg < 4) × (field < 2 ^ cond told.tlbip 44 37) }
-    ensures { result ≡ address_of told tg field }
+pub fn address_of(told: Told, granule: Granule, field: u64) -> u64
+    requires { field < 2 ^ cond told.tlbip 44 37 }
+    ensures { result ≡ address_of told granule field }
 {
-    let form = told.form;
-    let copied = copies_top(form);
+    let copied = copies_top(told.form);
     if told.tlbip {
-        tlbip_address(copied, tg, field)
+        extend(44, 12, copied, whole_granules(granule, field))
     } else {
-        let unit = unit_tg(told.unit64k, tg);
-        tlbi_address(copied, unit, field)
+        extend(37, granule.unit_exponent(told.unit64k), copied, field)
     }
 }
 
-pub fn tlbi_field(unit: u64, address: u64) -> u64
-    requires { (1 ≤ unit) × (unit < 4) }
-    ensures { (result ≡ address / 2 ^ granule_exponent unit % 2 ^ 37) × (result < 2 ^ 37) }
+// The field that holds an address, where it can.
+#[tactic(auto, unfolding(machine::specs::Operand::field_of))]
+pub fn field_of(told: Told, granule: Granule, address: u64) -> u64
+    ensures { (result ≡ field_of told granule address) × (result < 2 ^ cond told.tlbip 44 37) }
 {
-    (address >> (10 + 2 * unit)) % 0x2000000000
-}
-
-pub fn tlbip_field(address: u64) -> u64
-    ensures { (result ≡ address / 2 ^ 12 % 2 ^ 44) × (result < 2 ^ 44) }
-{
-    address / 0x1000 % 0x100000000000
+    if told.tlbip {
+        (address >> 12) % 0x100000000000
+    } else {
+        (address >> granule.unit_exponent(told.unit64k)) % 0x2000000000
+    }
 }
 
 // The base field of two words.

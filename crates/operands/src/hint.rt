@@ -5,7 +5,7 @@ ghost use Rattle.machine.specs.Operand.{reads_as_zero, hint_of};
 pub fn reads_as_zero(lpa2: bool, tg: u64, ttl: u64) -> bool
     ensures { result ≡ reads_as_zero lpa2 tg ttl }
 {
-    (ttl == 1) & (tg == 2) & !lpa2
+    ttl == 1 && tg == 2 && !lpa2
 }
 
 #[tactic(auto, unfolding(machine::specs::Operand::hint_of))]

@@ -1,67 +1,31 @@
 // The writer of operands.
-ghost use Rattle.std.specs.Prelude.{◌+◌, ◌*◌, ◌^◌, ◌≤◌, ◌<◌, true, false, cond, ◌&&◌, ◌≡◌};
-ghost use Rattle.machine.specs.Operand.{fits, field_of, is_shown, is_writable, xt_of, words_of};
+ghost use Rattle.std.specs.Prelude.{◌+◌, ◌*◌, ◌^◌, ◌≤◌, ◌<◌, true, false, cond, ltb, eqb, ◌&&◌, ◌≡◌};
+ghost use Rattle.machine.specs.Operand.{field_of, is_granule, is_shown, is_writable, xt_of, words_of};
 
-use crate::base::{tlbi_address, tlbi_field, tlbip_address, tlbip_field, unit_tg};
-use crate::form::{copies_top, has_asid, has_ns};
+use crate::base::{address_of, field_of};
+use crate::form::{has_asid, has_ns};
+use crate::granule::Granule;
 use crate::hint::reads_as_zero;
-use machine::{Operand, OperandWritten, Told};
+use machine::{Operand, Refusal, Told};
 
-// How many values a field has: one, which is 0, where the form lacks it.
-fn room_of(has: bool, values: u64) -> u64
-    ensures { result ≡ cond has values 1 }
+// A field that the form lacks is 0.
+fn fits(has: bool, values: u64, value: u64) -> bool
+    ensures { result ≡ cond has (ltb value values) (eqb value 0) }
 {
-    if has { values } else { 1 }
+    if has { value < values } else { value == 0 }
 }
 
-fn asid_fits(has: bool, asid: u64) -> bool
-    ensures { result ≡ fits has 16 asid }
-{
-    asid < room_of(has, 0x10000)
-}
-
-fn ns_fits(has: bool, ns: u64) -> bool
-    ensures { result ≡ fits has 1 ns }
-{
-    ns < room_of(has, 2)
-}
-
-// The fields fit, and only the base is left to look at. One test after the other: they hold for nearly all that is written.
+// The fields fit, and only TG and the base are left to look at.
 #[tactic(auto, unfolding(machine::specs::Operand::is_writable, machine::specs::Operand::is_shown))]
 fn fields_fit(told: Told, o: Operand) -> bool
-    requires { (1 ≤ o.tg) × (o.tg < 4) }
-    ensures { is_writable told o ≡ (result && is_shown told o.tg o.base) }
+    ensures { is_writable told o ≡ (is_granule o.tg && result && is_shown told o.tg o.base) }
 {
-    if 4 <= o.scale {
-        return false;
-    }
-    if 32 <= o.num {
-        return false;
-    }
-    if 4 <= o.ttl {
-        return false;
-    }
-    let form = told.form;
-    if !asid_fits(has_asid(form), o.asid) {
-        return false;
-    }
-    if !ns_fits(has_ns(form), o.ns) {
-        return false;
-    }
-    !reads_as_zero(told.lpa2, o.tg, o.ttl)
-}
-
-fn joined(ns: u64, asid: u64, tg: u64, scale: u64, num: u64, ttl: u64, low: u64) -> u64
-    requires { (ns * 2 ^ 15 + asid < 2 ^ 16) × (tg < 4) × (scale < 4) × (num < 32) × (ttl < 4) × (low < 2 ^ 37) }
-    ensures { result ≡ ns * 2 ^ 63 + asid * 2 ^ 48 + tg * 2 ^ 46 + scale * 2 ^ 44 + num * 2 ^ 39 + ttl * 2 ^ 37 + low }
-{
-    ns * 0x8000000000000000
-        + asid * 0x1000000000000
-        + tg * 0x400000000000
-        + scale * 0x100000000000
-        + num * 0x8000000000
-        + ttl * 0x2000000000
-        + low
+    o.scale < 4
+        && o.num < 32
+        && o.ttl < 4
+        && fits(has_asid(told.form), 0x10000, o.asid)
+        && fits(has_ns(told.form), 2, o.ns)
+        && !reads_as_zero(told.lpa2, o.tg, o.ttl)
 }
 
 // `low` is the base of a TLBI, which stands in bits 36:0.
@@ -70,57 +34,30 @@ fn xt_of(told: Told, o: Operand, low: u64) -> u64
     requires { (is_writable told o ≡ true) × (low ≡ cond told.tlbip 0 (field_of told o.tg o.base)) × (low < 2 ^ 37) }
     ensures { result ≡ xt_of told o }
 {
-    joined(o.ns, o.asid, o.tg, o.scale, o.num, o.ttl, low)
+    (o.ns << 63)
+        + (o.asid << 48)
+        + (o.tg << 46)
+        + (o.scale << 44)
+        + (o.num << 39)
+        + (o.ttl << 37)
+        + low
 }
 
-#[tactic(auto, unfolding(machine::specs::Operand::is_writable, machine::specs::Operand::is_shown, machine::specs::Operand::words_of, machine::specs::Operand::field_of, machine::specs::Operand::address_of, machine::specs::Operand::xt2_of))]
-fn write_tlbi(told: Told, o: Operand) -> OperandWritten
-    requires { (told.tlbip ≡ false) × (1 ≤ o.tg) × (o.tg < 4) × (is_writable told o ≡ is_shown told o.tg o.base) }
+#[tactic(auto, unfolding(machine::specs::Operand::words_of, machine::specs::Operand::is_writable, machine::specs::Operand::is_shown, machine::specs::Operand::xt2_of))]
+pub fn write_operand(told: Told, o: Operand) -> Result<(u64, u64), Refusal>
     ensures { result ≡ words_of told o }
 {
-    let form = told.form;
-    let copied = copies_top(form);
-    let unit = unit_tg(told.unit64k, o.tg);
-    let field = tlbi_field(unit, o.base);
-    if tlbi_address(copied, unit, field) == o.base {
-        let xt = xt_of(told, o, field);
-        return OperandWritten::Words(xt, 0);
-    }
-    OperandWritten::Refused
-}
-
-#[tactic(auto, unfolding(machine::specs::Operand::is_writable, machine::specs::Operand::is_shown, machine::specs::Operand::words_of, machine::specs::Operand::field_of, machine::specs::Operand::address_of, machine::specs::Operand::xt2_of))]
-fn write_tlbip(told: Told, o: Operand) -> OperandWritten
-    requires { (told.tlbip ≡ true) × (1 ≤ o.tg) × (o.tg < 4) × (is_writable told o ≡ is_shown told o.tg o.base) }
-    ensures { result ≡ words_of told o }
-{
-    let form = told.form;
-    let copied = copies_top(form);
-    let field = tlbip_field(o.base);
-    if tlbip_address(copied, o.tg, field) == o.base {
-        let xt = xt_of(told, o, 0);
-        return OperandWritten::Words(xt, field);
-    }
-    OperandWritten::Refused
-}
-
-#[tactic(auto, unfolding(machine::specs::Operand::words_of, machine::specs::Operand::is_writable))]
-pub fn write_operand(told: Told, o: Operand) -> OperandWritten
-    ensures { result ≡ words_of told o }
-{
-    let tg = o.tg;
-    if 4 <= tg {
-        return OperandWritten::Refused;
-    }
-    if tg == 0 {
-        return OperandWritten::Refused;
-    }
+    let granule = Granule::of(o.tg).ok_or(Refusal::Illegal)?;
     if !fields_fit(told, o) {
-        return OperandWritten::Refused;
+        return Err(Refusal::Illegal);
+    }
+    let field = field_of(told, granule, o.base);
+    if address_of(told, granule, field) != o.base {
+        return Err(Refusal::Illegal);
     }
     if told.tlbip {
-        write_tlbip(told, o)
+        Ok((xt_of(told, o, 0), field))
     } else {
-        write_tlbi(told, o)
+        Ok((xt_of(told, o, field), 0))
     }
 }

@@ -1,18 +1,19 @@
 -- Bytes as one number: how large it is, that no others have it, and when they are all one byte.
-use Prim.Native.Nat.{ℕ, zero, suc, ◌+◌, ◌*◌, ◌-◌, ◌^◌, ◌<◌, ◌≤◌}
+use Prim.Native.Nat.{ℕ, zero, suc, ◌+◌, ◌*◌, ◌^◌, ◌<◌, ◌≤◌}
 use mathlib.Core.Bool.{true}
 use mathlib.Core.List.{List, [], ◌∷◌}
 use mathlib.Core.Path.{◌≡◌, refl, sym, ap, ap₂, ◌∙◌}
 use native.Mathlib.Nat.{pow-succ'}
 use native.Mathlib.Omega.{arith}
 use lib.Dec.{eqb}
-use lib.ListN.{length, get_or, drop, replicate, length-drop, drop_of_length-le, get_or-replicate}
-use lib.Seq.{drop-cons, get_or-drop, ext_get_or}
+use lib.ListN.{length, get_or, drop, replicate, length-drop, get_or-replicate}
+use lib.Seq.{get_or-drop, ext_get_or}
 use borrow.Author.Tests.{eqb-true, eq-eqb}
 use Rattle.laws.proofs.Every.{at, each}
 use Rattle.laws.proofs.Truth.{alike}
 use Rattle.laws.specs.Every.{every}
 use Rattle.processor.specs.Domains.{is_first, number_of}
+use Rattle.std.specs.Int.{w64, from_le_bytes}
 
 -- each is below 256, as is the 0 that stands for those past the last
 abbrev pub Bytes : List ℕ → Type 0
@@ -26,27 +27,25 @@ number-below [] (suc n) h m = omega (arith, pow-succ' 256 n, number-below [] n h
 number-below (b ∷ bs) zero h m = absurd (omega arith)
 number-below (b ∷ bs) (suc n) h m = omega (arith, pow-succ' 256 n, h 0, number-below bs n (λ (k : ℕ). h (suc k)) (omega arith))
 
--- A loop that goes down from the last: at its start, at a turn and at its end.
-pub number-none : (l : List ℕ) (n : ℕ) → length l ≡ n → 0 ≡ number_of (drop n l)
-unfolding number_of
-number-none l n h = let e : length l ≤ n = omega arith in ap number_of (sym (drop_of_length-le l e))
-
-pub number-down : (l : List ℕ) (p m : ℕ) → 0 < p → p ≤ length l → m ≡ number_of (drop p l) → get_or l (p - 1) 0 + 256 * m ≡ number_of (drop (p - 1) l)
-unfolding number_of
-number-down l p m pos h e =
-    let up : p ≡ suc (p - 1) = omega arith in
-    let low : p - 1 < length l = omega arith in
-    ap (λ (x : ℕ). get_or l (p - 1) 0 + 256 * x) (e ∙ ap (λ (q : ℕ). number_of (drop q l)) up)
-    ∙ ap number_of (sym (drop-cons l (p - 1) 0 low))
-
-pub number-end : (l : List ℕ) (p m : ℕ) → m ≡ number_of (drop p l) → p ≤ 0 → m ≡ number_of l
-number-end l p m e h = let z : p ≡ 0 = omega arith in e ∙ ap (λ (q : ℕ). number_of (drop q l)) z
-
--- and its number always fits n bytes, where the list has no more
+-- and what is left of them always fits n bytes too
 pub number_fits : (l : List ℕ) (p n m : ℕ) → Bytes l → length l ≤ n → m ≡ number_of (drop p l) → m < 256 ^ n
 number_fits l p n m h s e =
     let left : length (drop p l) ≤ n = omega (arith, length-drop p l) in
     omega (arith, e, number-below (drop p l) n (λ (k : ℕ). omega (arith, get_or-drop p l k 0, h (p + k))) left)
+
+-- eight bytes as the library's number of them
+pub eight_bytes : (l : List ℕ) → length l ≡ 8 → from_le_bytes w64 l ≡ number_of l
+unfolding number_of
+eight_bytes [] n = absurd (omega arith)
+eight_bytes (a ∷ []) n = absurd (omega arith)
+eight_bytes (a ∷ b ∷ []) n = absurd (omega arith)
+eight_bytes (a ∷ b ∷ c ∷ []) n = absurd (omega arith)
+eight_bytes (a ∷ b ∷ c ∷ d ∷ []) n = absurd (omega arith)
+eight_bytes (a ∷ b ∷ c ∷ d ∷ e ∷ []) n = absurd (omega arith)
+eight_bytes (a ∷ b ∷ c ∷ d ∷ e ∷ f ∷ []) n = absurd (omega arith)
+eight_bytes (a ∷ b ∷ c ∷ d ∷ e ∷ f ∷ g ∷ []) n = absurd (omega arith)
+eight_bytes (a ∷ b ∷ c ∷ d ∷ e ∷ f ∷ g ∷ h ∷ []) n = omega arith
+eight_bytes (a ∷ b ∷ c ∷ d ∷ e ∷ f ∷ g ∷ h ∷ i ∷ l) n = absurd (omega arith)
 
 -- as many bytes with the same number are the same
 pub number_same : (l m : List ℕ) → length l ≡ length m → Bytes l → Bytes m → number_of l ≡ number_of m → l ≡ m

@@ -9,8 +9,7 @@ use machine::{Regime, State};
 pub fn el2_enabled(state: State) -> bool
     ensures { result ≡ el2_enabled state }
 {
-    let secure = is_secure(security_of(state));
-    state.present.el2 & (!secure | (state.features.sel2 & state.scr.eel2))
+    state.present.el2 && (!is_secure(security_of(state)) || (state.features.sel2 && state.scr.eel2))
 }
 
 // The VMID of a regime's entries.
@@ -20,9 +19,7 @@ pub fn vmid_in(state: State, regime: Regime) -> u16
 {
     match regime {
         Regime::EL10 => vmid_of(state),
-        Regime::EL20 => 0,
-        Regime::EL2 => 0,
-        Regime::EL3 => 0,
+        Regime::EL20 | Regime::EL2 | Regime::EL3 => 0,
     }
 }
 
@@ -36,6 +33,5 @@ fn vmid_of(state: State) -> u16
 pub fn hcrx_live(state: State) -> bool
     ensures { result ≡ hcrx_live state }
 {
-    let enabled = el2_enabled(state);
-    state.features.hcx & (!state.present.el3 | state.scr.hxen) & enabled
+    state.features.hcx && (!state.present.el3 || state.scr.hxen) && el2_enabled(state)
 }

@@ -10,9 +10,7 @@ pub fn security_in(state: State, regime: Regime) -> Security
     ensures { result ≡ security_in state regime }
 {
     match regime {
-        Regime::EL10 => security_of(state),
-        Regime::EL20 => security_of(state),
-        Regime::EL2 => security_of(state),
+        Regime::EL10 | Regime::EL20 | Regime::EL2 => security_of(state),
         Regime::EL3 => own_security(state),
     }
 }
@@ -22,16 +20,12 @@ pub fn security_in(state: State, regime: Regime) -> Security
 pub fn security_of(state: State) -> Security
     ensures { result ≡ security_of state }
 {
-    if state.present.el3 {
-        if state.scr.ns {
-            if state.features.rme & state.scr.nse {
-                Security::Realm
-            } else {
-                Security::NonSecure
-            }
-        } else {
-            Security::Secure
-        }
+    if !state.present.el3 {
+        Security::NonSecure
+    } else if !state.scr.ns {
+        Security::Secure
+    } else if state.features.rme && state.scr.nse {
+        Security::Realm
     } else {
         Security::NonSecure
     }
@@ -50,10 +44,5 @@ fn own_security(state: State) -> Security
 pub fn is_secure(security: Security) -> bool
     ensures { result ≡ is_secure security }
 {
-    match security {
-        Security::Secure => true,
-        Security::NonSecure => false,
-        Security::Realm => false,
-        Security::Root => false,
-    }
+    security == Security::Secure
 }

@@ -8,17 +8,16 @@ use machine::{Ds, Regime, State};
 pub fn is_unit_64k(state: State, regime: Regime, stage2: bool) -> bool
     ensures { result ≡ is_unit_64k state regime stage2 }
 {
-    let ds = ds_of(state.ds, regime, stage2);
-    state.features.lpa2 & ds
+    state.features.lpa2 && ds_of(state.ds, regime, stage2)
 }
 
 fn ds_of(ds: Ds, regime: Regime, stage2: bool) -> bool
     ensures { result ≡ ds_of ds regime stage2 }
 {
-    match regime {
-        Regime::EL10 => { if stage2 { ds.stage2 } else { ds.el1 } }
-        Regime::EL20 => ds.el2,
-        Regime::EL2 => ds.el2,
-        Regime::EL3 => ds.el3,
+    match (regime, stage2) {
+        (Regime::EL10, true) => ds.stage2,
+        (Regime::EL10, false) => ds.el1,
+        (Regime::EL20 | Regime::EL2, _) => ds.el2,
+        (Regime::EL3, _) => ds.el3,
     }
 }

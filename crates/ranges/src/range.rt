@@ -1,38 +1,30 @@
 // The range that an operand means, or why it means none.
 ghost use Rattle.std.specs.Prelude.{◌≡◌};
-ghost use Rattle.machine.specs.Operand.{Within};
 ghost use Rattle.machine.specs.Range.{range_of, ranged_of};
 
 use crate::length::{last_of, length_of};
 use crate::multiple::is_unpredictable;
-use machine::{Operand, OperandRead, Range, Ranged, Told};
-use operands::read_operand;
+use machine::{Operand, Range, Refusal, Told};
+use operands::{RangeFields, read_fields};
 
 #[tactic(auto, unfolding(machine::specs::Range::range_of))]
-fn range_of(o: Operand) -> Range
-    requires { Within o }
-    ensures { result ≡ range_of o }
+fn range_of(fields: RangeFields) -> Range
+    ensures { result ≡ range_of fields }
 {
-    let length = length_of(o);
-    let last = last_of(o.base, length);
+    let first = fields.operand().base;
     Range {
-        first: o.base,
-        last,
+        first,
+        last: last_of(first, length_of(fields)),
     }
 }
 
 #[tactic(auto, unfolding(machine::specs::Range::ranged_of))]
-pub fn ranged(told: Told, xt: u64, xt2: u64) -> Ranged
+pub fn ranged(told: Told, xt: u64, xt2: u64) -> Result<(Operand, Range), Refusal>
     ensures { result ≡ ranged_of told xt xt2 }
 {
-    match read_operand(told, xt, xt2) {
-        OperandRead::NoGranule => Ranged::NoGranule,
-        OperandRead::Fields(o) => {
-            if is_unpredictable(told.tlbip, o) {
-                return Ranged::Unpredictable;
-            }
-            let range = range_of(o);
-            Ranged::Covers(o, range)
-        }
+    let fields = read_fields(told, xt, xt2)?;
+    if is_unpredictable(told.tlbip, fields) {
+        return Err(Refusal::Unpredictable);
     }
+    Ok((fields.operand(), range_of(fields)))
 }

@@ -3,44 +3,31 @@ ghost use Rattle.std.specs.Prelude.{◌≡◌};
 ghost use Rattle.machine.specs.Asked.{xt_used, xt2_used, is_two_ranges, form_of, told_of, asked_of};
 
 use crate::range::ranged;
-use machine::{Form, Operation, Ranged, Regime, Scope, State, Told};
+use machine::{Form, Operand, Operation, Range, Refusal, Regime, Scope, State, Told};
 use processor::{is_secure, is_unit_64k};
 
 pub fn is_two_ranges(regime: Regime) -> bool
     ensures { result ≡ is_two_ranges regime }
 {
-    match regime {
-        Regime::EL10 => true,
-        Regime::EL20 => true,
-        Regime::EL2 => false,
-        Regime::EL3 => false,
-    }
+    matches!(regime, Regime::EL10 | Regime::EL20)
 }
 
 #[tactic(auto, unfolding(machine::specs::Asked::form_of))]
 fn form_of(scope: Scope) -> Form
     ensures { result ≡ form_of scope }
 {
-    let regime = scope.regime;
-    let security = scope.security;
-    let two = is_two_ranges(regime);
-    let secure = is_secure(security);
     if scope.stage2 {
-        if secure {
+        if is_secure(scope.security) {
             Form::Stage2Ns
         } else {
             Form::Stage2NoNs
         }
+    } else if !is_two_ranges(scope.regime) {
+        Form::OneRange
+    } else if scope.asid {
+        Form::TwoRangesAsid
     } else {
-        if two {
-            if scope.asid {
-                Form::TwoRangesAsid
-            } else {
-                Form::TwoRanges
-            }
-        } else {
-            Form::OneRange
-        }
+        Form::TwoRanges
     }
 }
 
@@ -48,14 +35,11 @@ fn form_of(scope: Scope) -> Form
 fn told_of(state: State, op: Operation, scope: Scope) -> Told
     ensures { result ≡ told_of state op scope }
 {
-    let form = form_of(scope);
-    let regime = scope.regime;
-    let unit64k = is_unit_64k(state, regime, scope.stage2);
     Told {
         tlbip: op.tlbip,
-        form,
+        form: form_of(scope),
         lpa2: state.features.lpa2,
-        unit64k,
+        unit64k: is_unit_64k(state, scope.regime, scope.stage2),
     }
 }
 
@@ -71,12 +55,20 @@ fn xt2_used(op: Operation, xt2: u64) -> u64
     if 30 <= op.rt { 0 } else { xt2 }
 }
 
+// State, operation, scope and words stay parameters, as the book's `asked_of` takes them.
 #[tactic(auto, unfolding(machine::specs::Asked::asked_of))]
-pub fn asked(state: State, op: Operation, scope: Scope, xt: u64, xt2: u64) -> Ranged
+pub fn asked(
+    state: State,
+    op: Operation,
+    scope: Scope,
+    xt: u64,
+    xt2: u64,
+) -> Result<(Operand, Range), Refusal>
     ensures { result ≡ asked_of state op scope xt xt2 }
 {
-    let told = told_of(state, op, scope);
-    let used = xt_used(op, xt);
-    let used2 = xt2_used(op, xt2);
-    ranged(told, used, used2)
+    ranged(
+        told_of(state, op, scope),
+        xt_used(op, xt),
+        xt2_used(op, xt2),
+    )
 }

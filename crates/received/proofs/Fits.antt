@@ -1,14 +1,16 @@
 -- What an entry and an operation that fit say of their fields.
 use Prim.Native.Nat.{ℕ, ◌%◌, ◌<◌}
-use mathlib.Core.Bool.{true, ◌&&◌}
-use mathlib.Core.Path.{◌≡◌, ap}
+use mathlib.Core.Bool.{Bool, true, false, cond, ◌&&◌}
+use mathlib.Core.Path.{◌≡◌, refl, ap}
 use native.Mathlib.Nat.{mod-eq_of_lt}
 use lib.Dec.{eqb, ltb}
+use lib.IntN.{ℤ}
 use borrow.Author.Tests.{ltb-true}
+use Rattle.std.specs.Prelude.{Some, None}
 use Rattle.laws.proofs.Truth.{and_0, and-1}
 use Rattle.machine.specs.Span.{is_level}
 use Rattle.received.specs.Entries.{company_fits, entry_fits}
-use Rattle.received.specs.Numbers.{is_flag, flag_in, is_regime, level_in}
+use Rattle.received.specs.Numbers.{is_flag, flag_in, is_regime, level_in, level_from}
 use Rattle.received.specs.Operations.{operation_fits}
 use Rattle.received.specs.declared.entry.EntryRecord.{EntryRecord}
 use Rattle.received.specs.declared.operation.OperationRecord.{OperationRecord}
@@ -19,6 +21,14 @@ Lowest x = eqb (x % 2) 1 ≡ flag_in x
 
 lowest : (x : ℕ) → is_flag x ≡ true → Lowest x
 lowest x h = ap (λ (y : ℕ). eqb y 1) (mod-eq_of_lt (ltb-true x 2 h))
+
+-- a level that there is fits
+pub level-fit : (x : ℕ) (l : ℤ) → level_from x ≡ Some l → (is_level (level_in x) ≡ true) × (level_in x ≡ l)
+level-fit x l = go (is_level (level_in x)) refl
+  where
+    go : (b : Bool) → is_level (level_in x) ≡ b → cond b (Some (level_in x)) None ≡ Some l → (is_level (level_in x) ≡ true) × (level_in x ≡ l)
+    go true e h = (e, cc)
+    go false e h = absurd cc
 
 pub record EntryFit (e : EntryRecord) : Type 0 where
   pub stage2 : Lowest e.company.stage2

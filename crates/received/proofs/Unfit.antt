@@ -1,9 +1,10 @@
 -- A value that a field cannot have: the state is bad, and the entry, the target and the operation break a rule.
 use Prim.Native.Nat.{ℕ, ◌^◌, ◌≤◌, ◌<◌}
-use mathlib.Core.Bool.{true, false, not, ◌&&◌, ◌||◌}
-use mathlib.Core.Path.{◌≡◌}
+use mathlib.Core.Bool.{Bool, true, false, cond, ◌&&◌, ◌||◌}
+use mathlib.Core.Path.{◌≡◌, refl}
 use native.Mathlib.Omega.{arith}
 use lib.Dec.{ltb}
+use Rattle.std.specs.Prelude.{None, is_none, Result, Ok, Err}
 use borrow.Author.Tests.{ltb-true}
 use Rattle.laws.proofs.Truth.{and_0, and-1, not_so}
 use Rattle.machine.proofs.Tags.{legal}
@@ -13,8 +14,9 @@ use Rattle.machine.specs.State.{bad_fields, bad_state}
 use Rattle.machine.specs.Target.{are_processors, are_addresses, is_target}
 use Rattle.machine.specs.Word.{built_of}
 use Rattle.machine.specs.declared.judge.Target.{Target}
-use Rattle.machine.specs.declared.operation.Built.TheVariants.{Unfit}
 use Rattle.machine.specs.declared.processor.State.{State}
+use Rattle.machine.specs.declared.refusal.Refusal.{Refusal}
+use Rattle.machine.specs.declared.refusal.Refusal.TheVariants.{Illegal}
 use Rattle.received.specs.Entries.{entry_fits, entry_in}
 use Rattle.received.specs.Operations.{operation_fits, operation_in}
 use Rattle.received.specs.States.{state_fits, state_in}
@@ -47,7 +49,7 @@ processors t h = simp h
 some : (st : State) (t : Target) → is_target st t ≡ true → 0 < t.processors
 unfolding is_target
 some st t k =
-    let a = is_company t.company && is_granule t.granule && (not t.one || has_asids t.company) in
+    let a = is_company t.company && is_granule t.granule && (is_none t.asid || has_asids t.company) in
     let set = are_processors st t.processors in
     let named : set ≡ true = and-1 a set (and_0 (a && set) (are_addresses t.company t.first t.last) k) in
     ltb-true 0 t.processors (and_0 (ltb 0 t.processors) (ltb t.processors (2 ^ st.board.count)) named)
@@ -60,6 +62,11 @@ target-unfit st t h = not_so (is_target st (target_in t)) (λ (k : is_target st 
     none set same more = omega arith
 
 -- no word has room for Rt 255
-pub operation-unfit : (o : OperationRecord) → operation_fits o ≡ false → built_of (operation_in o) ≡ Unfit
+pub operation-unfit : (o : OperationRecord) → operation_fits o ≡ false → built_of (operation_in o) ≡ None
 unfolding built_of operation_in
 operation-unfit o h = simp h
+
+-- what is not taken in does not fit
+pub refused : {A : Type 0} (fits : Bool) (a : A) (r : Refusal) → cond {A = Result A Refusal} fits (Ok a) (Err Illegal) ≡ Err r → fits ≡ false
+refused true a r h = absurd cc
+refused false a r h = refl

@@ -1,5 +1,5 @@
 -- The company and the entry that C's records stand for.
-use Rattle.std.specs.Prelude.{ℕ, ◌%◌, Bool, cond, ◌&&◌, ltb}
+use Rattle.std.specs.Prelude.{ℕ, ◌%◌, Bool, cond, ◌&&◌, ltb, Result, Ok, Err}
 use Rattle.machine.specs.Span.{is_level}
 use Rattle.machine.specs.Tag.{regime_at, security_at}
 use Rattle.machine.specs.declared.entry.Company.{Company}
@@ -7,6 +7,8 @@ use Rattle.machine.specs.declared.entry.Entry.{Entry}
 use Rattle.received.specs.Numbers.{is_flag, flag_in, is_regime, level_in}
 use Rattle.received.specs.declared.entry.CompanyRecord.{CompanyRecord}
 use Rattle.received.specs.declared.entry.EntryRecord.{EntryRecord}
+use Rattle.machine.specs.declared.refusal.Refusal.{Refusal}
+use Rattle.machine.specs.declared.refusal.Refusal.TheVariants.{Illegal}
 
 -- the values that the fields of a company can have, and the company; its regime and its security state have the numbers that they have in a tag
 abbrev pub company_fits : CompanyRecord → Bool
@@ -46,3 +48,7 @@ entry_in e = record {
   xs = flag_in e.xs;
   base = e.base;
 }
+
+-- the entry, where each field fits
+abbrev pub entry_from : EntryRecord → Result Entry Refusal
+entry_from e = cond (entry_fits e) (Ok (entry_in e)) (Err Illegal)

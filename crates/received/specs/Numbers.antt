@@ -1,5 +1,6 @@
 -- Flags, regimes and levels, as the numbers that C gives for them.
-use Rattle.std.specs.Prelude.{ℕ, Bool, cond, eqb, ltb, ℤ, pos, ◌-ℤ◌}
+use Rattle.std.specs.Prelude.{ℕ, Bool, cond, eqb, ltb, ℤ, pos, ◌-ℤ◌, Option, Some, None}
+use Rattle.machine.specs.Span.{is_level}
 
 -- a flag is 0 or 1
 abbrev pub is_flag : ℕ → Bool
@@ -20,3 +21,7 @@ level_in x =
     (cond (eqb x 2) (pos 2)
     (cond (eqb x 3) (pos 3)
     (cond (eqb x 18446744073709551615) (pos 0 -ℤ pos 1) (pos 4)))))
+
+-- the level, where it is one
+abbrev pub level_from : ℕ → Option ℤ
+level_from x = cond (is_level (level_in x)) (Some (level_in x)) None

@@ -1,5 +1,5 @@
 -- The operation that C's record stands for.
-use Rattle.std.specs.Prelude.{ℕ, ◌%◌, Bool, cond, ◌&&◌, eqb, ltb}
+use Rattle.std.specs.Prelude.{ℕ, ◌%◌, Bool, cond, ◌&&◌, eqb, ltb, Result, Ok, Err}
 use Rattle.machine.specs.declared.operation.Name.{Name}
 use Rattle.machine.specs.declared.operation.Name.TheVariants.{RVAE1, RVAAE1, RVALE1, RVAALE1, RVAE2, RVALE2, RVAE3, RVALE3, RIPAS2E1, RIPAS2LE1}
 use Rattle.machine.specs.declared.operation.Operation.{Operation}
@@ -7,6 +7,8 @@ use Rattle.machine.specs.declared.operation.Share.{Share}
 use Rattle.machine.specs.declared.operation.Share.TheVariants.{Local, Inner, Outer}
 use Rattle.received.specs.Numbers.{is_flag, flag_in}
 use Rattle.received.specs.declared.operation.OperationRecord.{OperationRecord}
+use Rattle.machine.specs.declared.refusal.Refusal.{Refusal}
+use Rattle.machine.specs.declared.refusal.Refusal.TheVariants.{Illegal}
 
 -- the names, in the order of 01's first sentence
 unfoldable pub name_at : ℕ → Name
@@ -35,3 +37,7 @@ rt_in o = cond (operation_fits o) (o.rt % 32) 255
 
 unfoldable pub operation_in : OperationRecord → Operation
 operation_in o = record { name = name_at o.name; share = share_at o.share; nxs = flag_in o.nxs; tlbip = flag_in o.tlbip; rt = rt_in o }
+
+-- the operation, where each field fits
+abbrev pub operation_from : OperationRecord → Result Operation Refusal
+operation_from o = cond (operation_fits o) (Ok (operation_in o)) (Err Illegal)

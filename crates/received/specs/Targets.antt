@@ -1,5 +1,5 @@
 -- The target that C's record stands for.
-use Rattle.std.specs.Prelude.{ℕ, ◌%◌, Bool, cond, ◌&&◌, ltb}
+use Rattle.std.specs.Prelude.{ℕ, ◌%◌, Bool, cond, ◌&&◌, ltb, Some, None}
 use Rattle.machine.specs.declared.judge.Target.{Target}
 use Rattle.received.specs.Numbers.{is_flag, flag_in}
 use Rattle.received.specs.Entries.{company_fits, company_in}
@@ -21,8 +21,7 @@ target_in t = record {
   company = company_in t.company;
   wide = flag_in t.wide;
   granule = t.granule % 256;
-  one = flag_in t.one;
-  asid = t.asid % 65536;
+  asid = cond (flag_in t.one) (Some (t.asid % 65536)) None;
   leaves = flag_in t.leaves;
   processors = processors_in t;
   first = t.first;

@@ -1,11 +1,12 @@
-// An entry as C gives it: one with a value that a field cannot have is refused before it is taken in.
-ghost use Rattle.std.specs.Prelude.{true, ◌≡◌};
-ghost use Rattle.received.specs.Entries.{company_fits, company_in, entry_fits, entry_in};
+// An entry as C gives it: one with a value that a field cannot have is refused.
+ghost use Rattle.std.specs.Prelude.{◌≡◌};
+ghost use Rattle.received.specs.Entries.{company_fits, company_in, entry_fits, entry_from};
 
-use crate::number::{level_fits, level_in};
-use machine::{Company, Entry};
+use crate::number::level_at;
+use machine::{Company, Entry, Refusal};
 use tags::{regime_at, security_at};
 
+// C passes numbers, of which each bit pattern is a value: a record has no enum and no bool.
 #[repr(C)]
 #[derive(Clone, Copy)]
 pub struct CompanyRecord {
@@ -16,7 +17,7 @@ pub struct CompanyRecord {
     pub ns: u64,
 }
 
-// The level is a signed word.
+// C passes numbers, as above; the level is a signed word.
 #[repr(C)]
 #[derive(Clone, Copy)]
 pub struct EntryRecord {
@@ -32,65 +33,64 @@ pub struct EntryRecord {
     pub base: u64,
 }
 
-pub fn company_fits(company: CompanyRecord) -> bool
-    ensures { result ≡ company_fits company }
-{
-    (company.regime < 4)
-        & (company.security < 4)
-        & (company.vmid < 65536)
-        & (company.stage2 < 2)
-        & (company.ns < 2)
-}
-
-#[tactic(auto, unfolding(crate::specs::Entries::company_in))]
-pub fn company_in(company: CompanyRecord) -> Company
-    ensures { result ≡ company_in company }
-{
-    let regime = regime_at(company.regime);
-    let security = security_at(company.security);
-    Company {
-        regime,
-        security,
-        vmid: (company.vmid % 65536) as u16,
-        stage2: company.stage2 == 1,
-        ns: company.ns == 1,
+impl CompanyRecord {
+    pub(crate) fn fits(self) -> bool
+        ensures { result ≡ company_fits self }
+    {
+        (self.regime < 4)
+            & (self.security < 4)
+            & (self.vmid < 65536)
+            & (self.stage2 < 2)
+            & (self.ns < 2)
     }
 }
 
-#[tactic(auto, unfolding(crate::specs::Entries::entry_fits))]
-pub fn entry_fits(entry: EntryRecord) -> bool
-    ensures { result ≡ entry_fits entry }
-{
-    let numbers = (entry.processor < 8) & (entry.asid < 65536) & (entry.granule < 4);
-    let flags = (entry.global < 2) & (entry.wide < 2) & (entry.leaf < 2) & (entry.xs < 2);
-    company_fits(entry.company) & numbers & flags & level_fits(entry.level)
+impl From<CompanyRecord> for Company {
+    ghost from_gives = { λ given company. company ≡ company_in given };
+
+    #[tactic(auto, unfolding(crate::specs::Entries::company_in))]
+    fn from(given: CompanyRecord) -> Company {
+        Company {
+            regime: regime_at(given.regime),
+            security: security_at(given.security),
+            vmid: (given.vmid % 65536) as u16,
+            stage2: given.stage2 == 1,
+            ns: given.ns == 1,
+        }
+    }
 }
 
-// A flag that fits is its lowest bit.
-#[tactic(auto, unfolding(crate::specs::Entries::entry_fits, crate::specs::Entries::entry_in))]
-pub fn entry_in(entry: EntryRecord) -> Entry
-    requires { entry_fits entry ≡ true }
-    ensures { result ≡ entry_in entry }
-{
-    let regime = regime_at(entry.company.regime);
-    let security = security_at(entry.company.security);
-    let level = level_in(entry.level);
-    Entry {
-        processor: (entry.processor % 256) as u8,
-        company: Company {
-            regime,
-            security,
-            vmid: (entry.company.vmid % 65536) as u16,
-            stage2: entry.company.stage2 % 2 == 1,
-            ns: entry.company.ns % 2 == 1,
-        },
-        asid: (entry.asid % 65536) as u16,
-        global: entry.global % 2 == 1,
-        wide: entry.wide % 2 == 1,
-        granule: (entry.granule % 256) as u8,
-        level,
-        leaf: entry.leaf % 2 == 1,
-        xs: entry.xs % 2 == 1,
-        base: entry.base,
+impl TryFrom<EntryRecord> for Entry {
+    type Error = Refusal;
+
+    ghost try_from_gives = { λ given entry. entry ≡ entry_from given };
+
+    // A flag that fits is its lowest bit. The company is made in its place: of a function's result the compiler would make one number.
+    #[tactic(auto, unfolding(crate::specs::Entries::entry_fits, crate::specs::Entries::entry_in, crate::specs::Entries::company_in))]
+    fn try_from(given: EntryRecord) -> Result<Entry, Refusal> {
+        let numbers = (given.processor < 8) & (given.asid < 65536) & (given.granule < 4);
+        let flags = (given.global < 2) & (given.wide < 2) & (given.leaf < 2) & (given.xs < 2);
+        let level = level_at(given.level).ok_or(Refusal::Illegal)?;
+        if !(given.company.fits() & numbers & flags) {
+            return Err(Refusal::Illegal);
+        }
+        Ok(Entry {
+            processor: (given.processor % 256) as u8,
+            company: Company {
+                regime: regime_at(given.company.regime),
+                security: security_at(given.company.security),
+                vmid: (given.company.vmid % 65536) as u16,
+                stage2: given.company.stage2 % 2 == 1,
+                ns: given.company.ns % 2 == 1,
+            },
+            asid: (given.asid % 65536) as u16,
+            global: given.global % 2 == 1,
+            wide: given.wide % 2 == 1,
+            granule: (given.granule % 256) as u8,
+            level,
+            leaf: given.leaf % 2 == 1,
+            xs: given.xs % 2 == 1,
+            base: given.base,
+        })
     }
 }

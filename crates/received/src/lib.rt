@@ -9,9 +9,9 @@ mod operation;
 mod state;
 mod target;
 
-pub use entry::{CompanyRecord, EntryRecord, entry_fits, entry_in};
+pub use entry::{CompanyRecord, EntryRecord};
 pub use number::is_regime;
-pub use operand::{FieldsRecord, ToldRecord, fields_in, told_fits, told_in};
-pub use operation::{OperationRecord, operation_fits, operation_in};
-pub use state::{StateRecord, state_in};
-pub use target::{TargetRecord, target_in};
+pub use operand::{FieldsRecord, ToldRecord, told_in};
+pub use operation::OperationRecord;
+pub use state::StateRecord;
+pub use target::TargetRecord;

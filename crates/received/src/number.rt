@@ -1,9 +1,6 @@
-// Flags, regimes and levels, as the numbers that C gives for them.
+// Regimes and levels, as the numbers that C gives for them.
 ghost use Rattle.std.specs.Prelude.{◌≡◌};
-ghost use Rattle.machine.specs.Span.{is_level};
-ghost use Rattle.received.specs.Numbers.{is_regime, level_in};
-
-use spans::is_level;
+ghost use Rattle.received.specs.Numbers.{is_regime, level_from};
 
 pub fn is_regime(number: u64) -> bool
     ensures { result ≡ is_regime number }
@@ -11,25 +8,17 @@ pub fn is_regime(number: u64) -> bool
     number < 4
 }
 
-// -1 to 3, of a signed word; any other word is no level.
-#[tactic(auto, unfolding(crate::specs::Numbers::level_in))]
-pub fn level_in(word: u64) -> i8
-    ensures { result ≡ level_in word }
+// -1 to 3, of a signed word.
+#[tactic(auto, unfolding(crate::specs::Numbers::level_in, machine::specs::Span::is_level))]
+pub fn level_at(word: u64) -> Option<i8>
+    ensures { result ≡ level_from word }
 {
     match word {
-        0 => 0,
-        1 => 1,
-        2 => 2,
-        3 => 3,
-        0xFFFFFFFFFFFFFFFF => -1,
-        _ => 4,
+        0 => Some(0),
+        1 => Some(1),
+        2 => Some(2),
+        3 => Some(3),
+        0xFFFFFFFFFFFFFFFF => Some(-1),
+        _ => None,
     }
-}
-
-#[tactic(auto, unfolding(crate::specs::Numbers::level_in))]
-pub fn level_fits(word: u64) -> bool
-    ensures { result ≡ is_level (level_in word) }
-{
-    let level = level_in(word);
-    is_level(level)
 }

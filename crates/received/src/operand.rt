@@ -1,9 +1,10 @@
 // What an operand's reader and writer are told, and an operand's fields, as C gives them.
 ghost use Rattle.std.specs.Prelude.{◌≡◌};
-ghost use Rattle.received.specs.Operands.{form_at, told_fits, told_in, fields_in};
+ghost use Rattle.received.specs.Operands.{form_at, told_fits, told_in, told_from, fields_in};
 
-use machine::{Form, Operand, Told};
+use machine::{Form, Operand, Refusal, Told};
 
+// C passes numbers: a record has no enum and no bool.
 #[repr(C)]
 #[derive(Clone, Copy)]
 pub struct ToldRecord {
@@ -25,6 +26,7 @@ pub struct FieldsRecord {
     pub base: u64,
 }
 
+// No TryFrom: both types are of other crates.
 #[tactic(auto, unfolding(crate::specs::Operands::form_at))]
 fn form_at(number: u64) -> Form
     ensures { result ≡ form_at number }
@@ -38,38 +40,55 @@ fn form_at(number: u64) -> Form
     }
 }
 
-// Whether each field has a value that it can have.
-#[tactic(auto, unfolding(crate::specs::Operands::told_fits))]
-pub fn told_fits(told: ToldRecord) -> bool
-    ensures { result ≡ told_fits told }
-{
-    (told.tlbip < 2) & (told.form < 5) & (told.lpa2 < 2) & (told.unit64k < 2)
+impl ToldRecord {
+    // Whether each field has a value that it can have.
+    #[tactic(auto, unfolding(crate::specs::Operands::told_fits))]
+    fn fits(self) -> bool
+        ensures { result ≡ told_fits self }
+    {
+        (self.tlbip < 2) & (self.form < 5) & (self.lpa2 < 2) & (self.unit64k < 2)
+    }
 }
 
+// Of any record, whether it fits or not.
 #[tactic(auto, unfolding(crate::specs::Operands::told_in))]
 pub fn told_in(told: ToldRecord) -> Told
     ensures { result ≡ told_in told }
 {
-    let form = form_at(told.form);
     Told {
         tlbip: told.tlbip == 1,
-        form,
+        form: form_at(told.form),
         lpa2: told.lpa2 == 1,
         unit64k: told.unit64k == 1,
     }
 }
 
-#[tactic(auto, unfolding(crate::specs::Operands::fields_in))]
-pub fn fields_in(fields: FieldsRecord) -> Operand
-    ensures { result ≡ fields_in fields }
-{
-    Operand {
-        asid: fields.asid,
-        ns: fields.ns,
-        tg: fields.tg,
-        scale: fields.scale,
-        num: fields.num,
-        ttl: fields.ttl,
-        base: fields.base,
+impl TryFrom<ToldRecord> for Told {
+    type Error = Refusal;
+
+    ghost try_from_gives = { λ given told. told ≡ told_from given };
+
+    fn try_from(given: ToldRecord) -> Result<Told, Refusal> {
+        if !given.fits() {
+            return Err(Refusal::Illegal);
+        }
+        Ok(told_in(given))
+    }
+}
+
+impl From<FieldsRecord> for Operand {
+    ghost from_gives = { λ given fields. fields ≡ fields_in given };
+
+    #[tactic(auto, unfolding(crate::specs::Operands::fields_in))]
+    fn from(given: FieldsRecord) -> Operand {
+        Operand {
+            asid: given.asid,
+            ns: given.ns,
+            tg: given.tg,
+            scale: given.scale,
+            num: given.num,
+            ttl: given.ttl,
+            base: given.base,
+        }
     }
 }

@@ -1,9 +1,10 @@
-// An operation as C gives it: one with a value that a field cannot have is refused before it is taken in.
-ghost use Rattle.std.specs.Prelude.{◌<◌, true, ◌≡◌};
-ghost use Rattle.received.specs.Operations.{name_at, share_at, operation_fits, operation_in};
+// An operation as C gives it: one with a value that a field cannot have is refused.
+ghost use Rattle.std.specs.Prelude.{◌<◌, ◌≡◌};
+ghost use Rattle.received.specs.Operations.{name_at, share_at, operation_fits, operation_from};
 
-use machine::{Name, Operation, Share};
+use machine::{Name, Operation, Refusal, Share};
 
+// C passes numbers: a record has no enum and no bool.
 #[repr(C)]
 #[derive(Clone, Copy)]
 pub struct OperationRecord {
@@ -14,6 +15,7 @@ pub struct OperationRecord {
     pub rt: u64,
 }
 
+// No TryFrom, here and below: both types are of other crates.
 #[tactic(auto, unfolding(crate::specs::Operations::name_at))]
 fn name_at(number: u64) -> Name
     ensures { result ≡ name_at number }
@@ -47,27 +49,33 @@ fn share_at(number: u64) -> Share
     Share::Local
 }
 
-// Whether each field has a value that it can have.
-#[tactic(auto, unfolding(crate::specs::Operations::operation_fits))]
-pub fn operation_fits(op: OperationRecord) -> bool
-    ensures { result ≡ operation_fits op }
-{
-    (op.name < 10) & (op.share < 3) & (op.nxs < 2) & (op.tlbip < 2) & (op.rt < 32)
+impl OperationRecord {
+    // Whether each field has a value that it can have.
+    #[tactic(auto, unfolding(crate::specs::Operations::operation_fits))]
+    fn fits(self) -> bool
+        ensures { result ≡ operation_fits self }
+    {
+        (self.name < 10) & (self.share < 3) & (self.nxs < 2) & (self.tlbip < 2) & (self.rt < 32)
+    }
 }
 
-// A flag that fits is its lowest bit.
-#[tactic(auto, unfolding(crate::specs::Operations::operation_fits, crate::specs::Operations::operation_in))]
-pub fn operation_in(op: OperationRecord) -> Operation
-    requires { operation_fits op ≡ true }
-    ensures { result ≡ operation_in op }
-{
-    let name = name_at(op.name);
-    let share = share_at(op.share);
-    Operation {
-        name,
-        share,
-        nxs: op.nxs % 2 == 1,
-        tlbip: op.tlbip % 2 == 1,
-        rt: (op.rt % 32) as u8,
+impl TryFrom<OperationRecord> for Operation {
+    type Error = Refusal;
+
+    ghost try_from_gives = { λ given op. op ≡ operation_from given };
+
+    // A flag that fits is its lowest bit.
+    #[tactic(auto, unfolding(crate::specs::Operations::operation_fits, crate::specs::Operations::operation_in))]
+    fn try_from(given: OperationRecord) -> Result<Operation, Refusal> {
+        if !given.fits() {
+            return Err(Refusal::Illegal);
+        }
+        Ok(Operation {
+            name: name_at(given.name),
+            share: share_at(given.share),
+            nxs: given.nxs % 2 == 1,
+            tlbip: given.tlbip % 2 == 1,
+            rt: (given.rt % 32) as u8,
+        })
     }
 }

@@ -2,9 +2,10 @@
 ghost use Rattle.std.specs.Prelude.{◌≡◌};
 ghost use Rattle.received.specs.Targets.{target_fits, processors_in, target_in};
 
-use crate::entry::{CompanyRecord, company_fits, company_in};
-use machine::Target;
+use crate::entry::CompanyRecord;
+use machine::{Company, Target};
 
+// C passes numbers: a record has no bool, and its one ASID is a flag and a number.
 #[repr(C)]
 #[derive(Clone, Copy)]
 pub struct TargetRecord {
@@ -19,40 +20,38 @@ pub struct TargetRecord {
     pub last: u64,
 }
 
-#[tactic(auto, unfolding(crate::specs::Targets::target_fits))]
-fn target_fits(target: TargetRecord) -> bool
-    ensures { result ≡ target_fits target }
-{
-    let numbers = (target.granule < 256) & (target.asid < 65536);
-    let flags = (target.wide < 2) & (target.one < 2) & (target.leaves < 2);
-    company_fits(target.company) & numbers & flags
-}
+impl TargetRecord {
+    #[tactic(auto, unfolding(crate::specs::Targets::target_fits))]
+    fn fits(self) -> bool
+        ensures { result ≡ target_fits self }
+    {
+        let numbers = (self.granule < 256) & (self.asid < 65536);
+        let flags = (self.wide < 2) & (self.one < 2) & (self.leaves < 2);
+        self.company.fits() & numbers & flags
+    }
 
-fn processors_in(target: TargetRecord) -> u64
-    ensures { result ≡ processors_in target }
-{
-    if target_fits(target) {
-        target.processors
-    } else {
-        0
+    // The empty set is no target's: judge answers 8 for it, behind what it answers 13 and 2 for.
+    fn processors(self) -> u64
+        ensures { result ≡ processors_in self }
+    {
+        if self.fits() { self.processors } else { 0 }
     }
 }
 
-#[tactic(auto, unfolding(crate::specs::Targets::target_in))]
-pub fn target_in(target: TargetRecord) -> Target
-    ensures { result ≡ target_in target }
-{
-    let company = company_in(target.company);
-    let processors = processors_in(target);
-    Target {
-        company,
-        wide: target.wide == 1,
-        granule: (target.granule % 256) as u8,
-        one: target.one == 1,
-        asid: (target.asid % 65536) as u16,
-        leaves: target.leaves == 1,
-        processors,
-        first: target.first,
-        last: target.last,
+impl From<TargetRecord> for Target {
+    ghost from_gives = { λ given target. target ≡ target_in given };
+
+    #[tactic(auto, unfolding(crate::specs::Targets::target_in))]
+    fn from(given: TargetRecord) -> Target {
+        Target {
+            company: Company::from(given.company),
+            wide: given.wide == 1,
+            granule: (given.granule % 256) as u8,
+            asid: (given.one == 1).then_some((given.asid % 65536) as u16),
+            leaves: given.leaves == 1,
+            processors: given.processors(),
+            first: given.first,
+            last: given.last,
+        }
     }
 }

@@ -3,20 +3,21 @@ ghost use Rattle.std.specs.Prelude.{◌≡◌};
 ghost use Rattle.machine.specs.Answer.{no_entry};
 ghost use Rattle.returned.specs.Words.{level_word, entry_words};
 
-use machine::{Company, Entry};
+use machine::Entry;
 use spans::{height_of, is_level};
 use tags::{flag, regime_number, security_number};
 
 // A level as a signed word: 3 less its height, and -1, whose height is 4, wraps.
+// 0 for a level that is none, as the definition `level_word` says: any level gets a word.
 #[tactic(auto, unfolding(crate::specs::Words::level_word))]
 fn level_word(level: i8) -> u64
     ensures { result ≡ level_word level }
 {
     if is_level(level) {
-        let height = height_of(level);
-        return std::num::wrapping_sub_u64(3, height);
+        3_u64.wrapping_sub(height_of(level))
+    } else {
+        0
     }
-    0
 }
 
 // The fields of an entry, and a word behind them.
@@ -25,31 +26,20 @@ pub fn entry_words(entry: Entry, behind: u64) -> [u64; 15]
     ensures { result ≡ entry_words entry behind }
 {
     let company = entry.company;
-    let regime = company.regime;
-    let security = company.security;
-    let regime = regime_number(regime);
-    let security = security_number(security);
-    let stage2 = flag(company.stage2);
-    let ns = flag(company.ns);
-    let global = flag(entry.global);
-    let wide = flag(entry.wide);
-    let level = level_word(entry.level);
-    let leaf = flag(entry.leaf);
-    let xs = flag(entry.xs);
     [
         entry.processor as u64,
-        regime,
-        security,
+        regime_number(company.regime),
+        security_number(company.security),
         company.vmid as u64,
-        stage2,
-        ns,
+        flag(company.stage2),
+        flag(company.ns),
         entry.asid as u64,
-        global,
-        wide,
+        flag(entry.global),
+        flag(entry.wide),
         entry.granule as u64,
-        level,
-        leaf,
-        xs,
+        level_word(entry.level),
+        flag(entry.leaf),
+        flag(entry.xs),
         entry.base,
         behind,
     ]

@@ -2,7 +2,7 @@
 ghost use Rattle.std.specs.Prelude.{◌≡◌};
 ghost use Rattle.returned.specs.Words.{fields_words, read_words, written_words};
 
-use machine::{Operand, OperandRead, OperandWritten};
+use machine::{Operand, Refusal};
 
 #[tactic(auto, unfolding(crate::specs::Words::fields_words))]
 fn fields_words(fields: Operand) -> [u64; 7]
@@ -20,20 +20,17 @@ fn fields_words(fields: Operand) -> [u64; 7]
 }
 
 #[tactic(auto, unfolding(crate::specs::Words::fields_words))]
-pub fn read_words(read: OperandRead) -> [u64; 7]
+pub fn read_words(read: Result<Operand, Refusal>) -> [u64; 7]
     ensures { result ≡ read_words read }
 {
-    match read {
-        OperandRead::Fields(fields) => fields_words(fields),
-        OperandRead::NoGranule => [0; 7],
-    }
+    read.map_or([0; 7], fields_words)
 }
 
-pub fn written_words(written: OperandWritten) -> [u64; 2]
+pub fn written_words(written: Result<(u64, u64), Refusal>) -> [u64; 2]
     ensures { result ≡ written_words written }
 {
     match written {
-        OperandWritten::Words(xt, xt2) => [xt, xt2],
-        OperandWritten::Refused => [0, 0],
+        Ok((xt, xt2)) => [xt, xt2],
+        Err(_) => [0, 0],
     }
 }

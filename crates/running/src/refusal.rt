@@ -1,41 +1,34 @@
 // Which step of a list does not answer 0.
-ghost use Rattle.std.specs.Prelude.{◌%◌, ◌≡◌, length};
-ghost use Rattle.laws.specs.Slots.{first};
+ghost use Rattle.std.specs.Prelude.{◌≡◌, position};
+ghost use Rattle.laws.specs.Chunks.{on_slot};
+ghost use Rattle.laws.specs.Slots.{first_slot};
 ghost use Rattle.machine.specs.Execute.{refuses};
 
-use machine::{Resolved, State};
+use machine::State;
 use words::OperationWord;
-use works::{nothing_held, resolve};
+use works::resolve;
 
-// The first step that does not answer 0, or the number of steps.
-pub fn first_refused(list: &[u64], state: State) -> usize
-    requires { length list.now % 3 ≡ 0 }
-    ensures { result ≡ first (refuses state) list.now }
+// The first step that does not answer 0, if there is one.
+#[tactic(auto, using(laws::proofs::Chunked::chunked))]
+pub fn first_refused(list: &[u64], state: &State) -> Option<usize>
+    ensures { result ≡ first_slot (refuses state.now) list.now }
 {
-    let mut i = 0;
-    let mut k = 0;
-    while i < list.len() {
-        if is_refused(state, list[i], list[i + 1], list[i + 2]) {
-            return k;
-        }
-        i += 3;
-        k += 1;
-    }
-    k
+    let (steps, _) = list.as_chunks::<3>();
+    first_of(steps, state)
 }
 
-fn is_refused(state: State, word: u64, xt: u64, xt2: u64) -> bool
-    ensures { result ≡ refuses state word xt xt2 }
+fn first_of(steps: &[[u64; 3]], state: &State) -> Option<usize>
+    ensures { result ≡ position (on_slot (refuses state.now)) steps.now }
+{
+    steps
+        .iter()
+        .position(|step| is_refused(state, step[0], step[1], step[2]))
+}
+
+// Word, Xt and Xt2 stay three parameters, as the book's `refuses` takes them.
+fn is_refused(state: &State, word: u64, xt: u64, xt2: u64) -> bool
+    ensures { result ≡ refuses state.now word xt xt2 }
 {
     let read = OperationWord { bits: word }.read();
-    let held = nothing_held();
-    match resolve(state, read, held, xt, xt2) {
-        Resolved::Works(work) => false,
-        Resolved::Unknown => true,
-        Resolved::Undefined => true,
-        Resolved::Trapped(number) => true,
-        Resolved::NoEffect => true,
-        Resolved::NoGranule => true,
-        Resolved::Unpredictable => true,
-    }
+    resolve(state, read, None, xt, xt2).is_err()
 }

@@ -132,7 +132,7 @@ bytes-told l d n h s =
     ∙ eqb-true (gathered_of (spread_bits (mask_from f 0 8) 8)) (mask_from f 0 8) (at is_gathered 256 gathered-all (mask_from f 0 8) (mask_below f 0 8))
 
 -- and which are 0
-pub zero-told : (x : ℕ) →
+pub zero_told : (x : ℕ) →
     bit_and (bit_or (bit_and x 0x7F7F7F7F7F7F7F7F + 0x7F7F7F7F7F7F7F7F) x) 0x8080808080808080 + 128 * zero_bytes x 8 ≡ 0x8080808080808080
 unfolding all_of
-zero-told x = some_bytes_lem 8 x
+zero_told x = some_bytes_lem 8 x

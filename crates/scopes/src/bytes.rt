@@ -3,6 +3,7 @@ ghost use Rattle.std.specs.Prelude.{◌≡◌};
 ghost use Rattle.scopes.specs.Bytes.{gathered_of, zero_bytes};
 
 // 1 in the place of each byte that is 0: to the lower seven bits of a byte 127 is added, which carries into the top bit if one of them is set.
+#[tactic(auto, using(crate::proofs::Eight::zero_told))]
 pub fn zero_bytes(number: u64) -> u64
     ensures { result ≡ zero_bytes number 8 }
 {

@@ -11,8 +11,7 @@ use processor::{domain_at, is_one_domain, number_of};
 pub fn reached_by(state: State, op: Operation) -> u64
     ensures { result ≡ reached_of state op }
 {
-    let share = op.share;
-    let eight = reached_of_eight(share, state.board);
+    let eight = reached_of_eight(op.share, state.board);
     below(eight, state.board.count)
 }
 
@@ -20,13 +19,10 @@ pub fn reached_by(state: State, op: Operation) -> u64
 fn reached_of_eight(share: Share, board: Board) -> u64
     ensures { (result ≡ mask_from (reaches_by share board) 0 8) × (result < 256) }
 {
-    let own = board.own;
-    let inner = board.inner;
-    let outer = board.outer;
     match share {
-        Share::Local => only(own),
-        Share::Inner => mates(inner, own),
-        Share::Outer => mates(outer, own),
+        Share::Local => only(board.own),
+        Share::Inner => mates(board.inner, board.own),
+        Share::Outer => mates(board.outer, board.own),
     }
 }
 
@@ -43,10 +39,8 @@ fn only(own: u8) -> u64
 fn mates(domains: [u8; 8], own: u8) -> u64
     ensures { (result ≡ mask_from (λ (p : ℕ). eqb (get_or domains p 0) (get_or domains own 0)) 0 8) × (result < 256) }
 {
-    if own < 8 {
-        if is_one_domain(domains) {
-            return 255;
-        }
+    if own < 8 && is_one_domain(domains) {
+        return 255;
     }
     mates_by_bytes(domains, own)
 }

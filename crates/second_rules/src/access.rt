@@ -1,126 +1,104 @@
 // The access rules: a ladder of answers, the first group before the rest.
-use crate::answers::{Outcome, no_effect, trapped, undefined};
-use crate::names::{E1_NAMES, E2_NAMES, E3_NAMES, RIPAS2, asid_applies, family, has_l};
+use crate::names::{asid_applies, family, has_l};
 use crate::reach::reached;
 use crate::regimes::{regime_of, vmid_of};
 use crate::security::{el2_enabled, hcrx_live, security_of};
 use crate::traps::{trapped_e1, trapped_nv};
-use machine::State;
+use machine::{Family, Operation, Refusal, Scope, Share, State};
 
 // "TLBI wants TLBIRANGE, and TLBIOS if OS; TLBIP wants D128; NXS wants XS."
-fn feature_absent(state: State, share: u8, nxs: bool, tlbip: bool) -> bool {
-    if nxs & !state.features.xs {
+fn feature_absent(state: State, op: Operation) -> bool {
+    if op.nxs && !state.features.xs {
         return true;
     }
-    if tlbip {
+    if op.tlbip {
         return !state.features.d128;
     }
-    if !state.features.tlbirange {
-        return true;
-    }
-    (share == 2) & !state.features.tlbios
+    !state.features.tlbirange || (op.share == Share::Outer && !state.features.tlbios)
 }
 
 // "SYSP with odd Rt below 31 is answer 3."
-fn odd_pair(tlbip: bool, rt: u8) -> bool {
-    tlbip & (rt < 31) & (rt % 2 == 1)
+fn odd_pair(op: Operation) -> bool {
+    op.tlbip && op.rt < 31 && op.rt % 2 == 1
 }
 
 // "With XS, live HCRX and FnXS 1, plain acts as NXS", for E1 at EL1.
-fn acts_as_nxs(state: State, family: u8, nxs: bool) -> bool {
-    if nxs {
+fn acts_as_nxs(state: State, op: Operation) -> bool {
+    if op.nxs {
         return true;
     }
-    if (family != E1_NAMES) | (state.el != 1) {
+    if family(op.name) != Family::E1 || state.el != 1 {
         return false;
     }
-    if !state.features.xs {
-        return false;
-    }
-    if !hcrx_live(state) {
-        return false;
-    }
-    state.hcrx.fnxs
+    state.features.xs && hcrx_live(state) && state.hcrx.fnxs
 }
 
-fn runs(state: State, name: u8, share: u8, nxs: bool) -> Outcome {
-    let family = family(name);
+fn runs(state: State, op: Operation) -> Scope {
+    let family = family(op.name);
     let regime = regime_of(state, family);
-    let board = state.board;
-    Outcome {
-        number: 0,
-        value: 0,
+    Scope {
         regime,
         security: security_of(state, regime),
         vmid: vmid_of(state, regime),
-        stage2: family == RIPAS2,
-        nxs: acts_as_nxs(state, family, nxs),
-        asid: asid_applies(name, regime),
-        last: has_l(name),
-        reached: reached(board, share),
+        stage2: family == Family::Stage2,
+        reached: reached(state.board, op.share),
+        asid: asid_applies(op.name, regime),
+        last: has_l(op.name),
+        nxs: acts_as_nxs(state, op),
     }
 }
 
-fn outcome_e1(state: State, name: u8, share: u8, nxs: bool, tlbip: bool) -> Outcome {
-    if state.el == 1 {
-        if trapped_e1(state, name, share, nxs) {
-            return trapped(tlbip);
-        }
+// 0x18 (TLBI) or 0x14 (TLBIP), whatever trapped it.
+fn trapped(op: Operation) -> Refusal {
+    Refusal::Trapped(if op.tlbip { 0x14 } else { 0x18 })
+}
+
+fn outcome_e1(state: State, op: Operation) -> Result<Scope, Refusal> {
+    if state.el == 1 && trapped_e1(state, op) {
+        return Err(trapped(op));
     }
-    runs(state, name, share, nxs)
+    Ok(runs(state, op))
 }
 
 // E2 names and RIPAS2, which part ways only at EL3 with EL2 disabled: "E2 names 3, RIPAS2 5".
-fn outcome_el2(state: State, name: u8, share: u8, nxs: bool, tlbip: bool) -> Outcome {
+fn outcome_el2(state: State, op: Operation) -> Result<Scope, Refusal> {
     if state.el == 1 {
         if trapped_nv(state) {
-            return trapped(tlbip);
+            return Err(trapped(op));
         }
-        return undefined();
+        return Err(Refusal::Undefined);
     }
-    if state.el == 3 {
-        if !el2_enabled(state) {
-            if family(name) == E2_NAMES {
-                return undefined();
-            }
-            return no_effect();
+    if state.el == 3 && !el2_enabled(state) {
+        if family(op.name) == Family::E2 {
+            return Err(Refusal::Undefined);
         }
+        return Err(Refusal::NoEffect);
     }
-    runs(state, name, share, nxs)
+    Ok(runs(state, op))
 }
 
 // "E3 names below EL3: 3."
-fn outcome_e3(state: State, name: u8, share: u8, nxs: bool) -> Outcome {
+fn outcome_e3(state: State, op: Operation) -> Result<Scope, Refusal> {
     if state.el < 3 {
-        return undefined();
+        return Err(Refusal::Undefined);
     }
-    runs(state, name, share, nxs)
+    Ok(runs(state, op))
 }
 
-// Numbers that stand for no name or no shareability are UNDEFINED.
-pub fn outcome(state: State, name: u8, share: u8, nxs: bool, tlbip: bool, rt: u8) -> Outcome {
-    if feature_absent(state, share, nxs, tlbip) {
-        return undefined();
+pub fn outcome(state: State, op: Operation) -> Result<Scope, Refusal> {
+    if feature_absent(state, op) {
+        return Err(Refusal::Undefined);
     }
     // "EL0 is always 3."
     if state.el == 0 {
-        return undefined();
+        return Err(Refusal::Undefined);
     }
-    if odd_pair(tlbip, rt) {
-        return undefined();
+    if odd_pair(op) {
+        return Err(Refusal::Undefined);
     }
-    if share > 2 {
-        return undefined();
+    match family(op.name) {
+        Family::E1 => outcome_e1(state, op),
+        Family::E2 | Family::Stage2 => outcome_el2(state, op),
+        Family::E3 => outcome_e3(state, op),
     }
-    let family = family(name);
-    if family == E1_NAMES {
-        return outcome_e1(state, name, share, nxs, tlbip);
-    }
-    if (family == E2_NAMES) | (family == RIPAS2) {
-        return outcome_el2(state, name, share, nxs, tlbip);
-    }
-    if family == E3_NAMES {
-        return outcome_e3(state, name, share, nxs);
-    }
-    undefined()
 }

@@ -1,14 +1,11 @@
 // Bad processor states, in the order of the requirements.
-use crate::domains::torn_pairs;
+use crate::domains::any_torn;
 use crate::security::el2_enabled;
 use machine::{Board, State};
 
 fn is_bad_board(board: Board) -> bool {
     // "count not 1 to 8"
-    if board.count == 0 {
-        return true;
-    }
-    if board.count > 8 {
+    if board.count == 0 || board.count > 8 {
         return true;
     }
     // "own number not below it"
@@ -16,7 +13,7 @@ fn is_bad_board(board: Board) -> bool {
         return true;
     }
     // "two processors in one inner and different outer domains"
-    torn_pairs(board) > 0
+    any_torn(board)
 }
 
 pub fn is_bad(state: State) -> bool {
@@ -25,27 +22,20 @@ pub fn is_bad(state: State) -> bool {
         return true;
     }
     // "at EL2 with it absent or disabled"
-    if state.el == 2 {
-        if !el2_enabled(state) {
-            return true;
-        }
+    if state.el == 2 && !el2_enabled(state) {
+        return true;
     }
     // "at EL3 with it absent"
-    if state.el == 3 {
-        if !state.present.el3 {
-            return true;
-        }
+    if state.el == 3 && !state.present.el3 {
+        return true;
     }
-    if state.features.rme {
-        // "RME without EL3"
-        if !state.present.el3 {
-            return true;
-        }
-        // "RME with {NSE, NS} = {1, 0}"
-        if state.scr.nse & !state.scr.ns {
-            return true;
-        }
+    // "RME without EL3"
+    if state.features.rme && !state.present.el3 {
+        return true;
     }
-    let board = state.board;
-    is_bad_board(board)
+    // "RME with {NSE, NS} = {1, 0}"
+    if state.features.rme && state.scr.nse && !state.scr.ns {
+        return true;
+    }
+    is_bad_board(state.board)
 }

@@ -2,7 +2,6 @@
 #![tactic(auto)]
 
 mod access;
-mod answers;
 mod bad;
 mod domains;
 mod names;
@@ -12,7 +11,6 @@ mod security;
 mod traps;
 
 pub use access::outcome;
-pub use answers::Outcome;
 pub use bad::is_bad;
 pub use regimes::{unit_64k, vmid_of};
 pub use security::security_of;

@@ -1,30 +1,24 @@
 // The processors that an operation reaches.
 use crate::domains::{same_inner, same_outer};
-use machine::Board;
+use machine::{Board, Share};
 
 // "own number; same inner; same outer domain", below the count.
-fn reaches(board: Board, share: u8, i: usize) -> bool {
-    let own = board.own as usize;
-    if i >= board.count as usize {
-        return false;
-    }
-    match share {
-        0 => i == own,
-        1 => same_inner(board, own, i),
-        2 => same_outer(board, own, i),
-        _ => false,
-    }
+fn reaches(board: Board, share: Share, i: usize) -> bool {
+    let own = usize::from(board.own);
+    i < usize::from(board.count)
+        && match share {
+            Share::Local => i == own,
+            Share::Inner => same_inner(board, own, i),
+            Share::Outer => same_outer(board, own, i),
+        }
 }
 
-pub fn reached(board: Board, share: u8) -> [bool; 8] {
-    [
-        reaches(board, share, 0),
-        reaches(board, share, 1),
-        reaches(board, share, 2),
-        reaches(board, share, 3),
-        reaches(board, share, 4),
-        reaches(board, share, 5),
-        reaches(board, share, 6),
-        reaches(board, share, 7),
-    ]
+// Processor i counts 2^i.
+pub fn reached(board: Board, share: Share) -> u64 {
+    (0..8usize).rev().fold(
+        0u64,
+        |mask, i| mask
+            .wrapping_mul(2)
+            .wrapping_add(u64::from(reaches(board, share, i))),
+    )
 }

@@ -1,50 +1,28 @@
 // The ASIDs that a list's steps hold, and one that none holds.
 use crate::entry::has_asids;
-use crate::execution::step_at;
-use machine::{State, Target};
+use crate::judging::Case;
 
-// "the target's ASID or the lowest that no step's used ASID field holds (0 without ASIDs)": 16 steps cannot hold all of 0 to 16.
-pub fn asid_of_gap(state: State, target: Target, list: &[u64]) -> u16 {
-    let company = target.company;
-    if target.one {
-        return target.asid;
-    }
-    if !has_asids(company) {
-        return 0;
-    }
-    for asid in 0..17u16 {
-        if !is_used(state, list, asid) {
+impl Case<'_> {
+    // "the target's ASID or the lowest that no step's used ASID field holds (0 without ASIDs)": 16 steps cannot hold all of 0 to 16.
+    pub fn asid_of_gap(&self) -> u16 {
+        if let Some(asid) = self.target.asid {
             return asid;
         }
-    }
-    17
-}
-
-fn is_used(state: State, list: &[u64], asid: u16) -> bool {
-    for place in 0..16usize {
-        if place < list.len() / 3 {
-            let step = step_at(state, list, place);
-            if step.outcome.asid & (step.fields.asid == (asid as u64)) {
-                return true;
-            }
+        if !has_asids(self.target.company) {
+            return 0;
         }
+        (0..17u16).find(|asid| !self.is_used(*asid)).unwrap_or(17)
     }
-    false
-}
 
-pub fn asid_at(state: State, list: &[u64], place: usize) -> u16 {
-    let step = step_at(state, list, place);
-    (step.fields.asid % 65536) as u16
-}
-
-// The first step whose operand holds an ASID, or 16.
-pub fn first_holder(state: State, list: &[u64], asid: u16) -> usize {
-    for place in 0..16usize {
-        if place < list.len() / 3 {
-            if asid_at(state, list, place) == asid {
-                return place;
-            }
-        }
+    fn is_used(&self, asid: u16) -> bool {
+        self.steps().iter().any(|words| {
+            self.step(*words).is_some_and(|step| step.scope.asid
+                && step.fields.asid == u64::from(asid))
+        })
     }
-    16
+
+    // The ASID that a step's operand holds.
+    pub fn asid_in(&self, words: [u64; 3]) -> Option<u16> {
+        u16::try_from(self.step(words)?.fields.asid).ok()
+    }
 }

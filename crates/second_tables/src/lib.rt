@@ -1,7 +1,7 @@
 // The second model's operands, entries, tables, execution and judging, read off the requirements a second time, to be compared.
+// Its functions take a state, an operand's words or a step and an entry apart, as the requirements' sentences name them.
 #![tactic(auto)]
 
-mod answer;
 mod asids;
 mod bases;
 mod bits;
@@ -10,7 +10,6 @@ mod execution;
 mod gap;
 mod going;
 mod judging;
-mod numbers;
 mod operand;
 mod range;
 mod span;
@@ -20,9 +19,9 @@ mod table;
 mod tag;
 mod target;
 
-pub use answer::{Answer, Verdict};
 pub use execution::{execute, run};
 pub use judging::judge;
-pub use operand::{Fields, Words, read, write};
+pub use operand::{read, write};
+pub use survivors::Contradiction;
 pub use table::{insert, look_up};
-pub use tag::{Slot, slot_at};
+pub use tag::slot_at;

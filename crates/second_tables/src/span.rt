@@ -1,51 +1,27 @@
 // Spans: the requirements' table of exponents, and the addresses of a span.
 use crate::bits::{cleared_below, doubled};
-use std::num::wrapping_add_u64;
 
-// "Span exponents, level -1 to 3"; 0 stands for none.
-pub fn exponent(wide: bool, granule: u64, level: i8) -> u8 {
-    if wide {
-        match granule {
-            1 => of_level(level, 44, 36, 28, 20, 12),
-            2 => of_level(level, 54, 44, 34, 24, 14),
-            3 => of_level(level, 0, 52, 40, 28, 16),
-            _ => 0,
-        }
-    } else {
-        match granule {
-            1 => of_level(level, 48, 39, 30, 21, 12),
-            2 => of_level(level, 0, 47, 36, 25, 14),
-            3 => of_level(level, 0, 0, 42, 29, 16),
-            _ => 0,
-        }
-    }
+// "Span exponents, level -1 to 3": a row begins at the first level that has a span, and ends with level 3.
+pub fn exponent(wide: bool, granule: u64, level: i8) -> Option<u8> {
+    let row: &[u8] = match (wide, granule) {
+        (true, 1) => &[44, 36, 28, 20, 12],
+        (true, 2) => &[54, 44, 34, 24, 14],
+        (true, 3) => &[52, 40, 28, 16],
+        (false, 1) => &[48, 39, 30, 21, 12],
+        (false, 2) => &[47, 36, 25, 14],
+        (false, 3) => &[42, 29, 16],
+        _ => return None,
+    };
+    let height = usize::try_from(3 - i16::from(level)).ok()?;
+    row.iter().rev().nth(height).copied()
 }
 
-fn of_level(level: i8, below0: u8, at0: u8, at1: u8, at2: u8, at3: u8) -> u8 {
-    if level == -1 {
-        return below0;
-    }
-    if level == 0 {
-        return at0;
-    }
-    if level == 1 {
-        return at1;
-    }
-    if level == 2 {
-        return at2;
-    }
-    if level == 3 {
-        return at3;
-    }
-    0
-}
-
-pub fn granule_exponent(granule: u64) -> u8 {
+pub fn granule_exponent(granule: u64) -> Option<u8> {
     match granule {
-        1 => 12,
-        2 => 14,
-        3 => 16,
-        _ => 0,
+        1 => Some(12),
+        2 => Some(14),
+        3 => Some(16),
+        _ => None,
     }
 }
 
@@ -56,5 +32,5 @@ pub fn base_at(address: u64, exponent: u8) -> u64 {
 
 // The first address behind a span; what passes 2^64 wraps.
 pub fn behind(base: u64, exponent: u8) -> u64 {
-    wrapping_add_u64(base, doubled(1, exponent))
+    base.wrapping_add(doubled(1, exponent))
 }

@@ -1,70 +1,50 @@
 // What an instruction word and two register words come to in a good state, before a table is looked at.
-use crate::operand::{Fields, read, unread};
-use crate::range::is_unpredictable;
-use machine::{Form, State, Told};
-use second_rules::{Outcome, outcome, unit_64k};
-use second_words::{Named, decode};
+use crate::operand::read;
+use crate::range::{is_unpredictable, last_address};
+use machine::{Form, Operand, Operation, Refusal, Regime, Scope, Security, State, Told};
+use second_rules::{outcome, unit_64k};
+use second_words::decode;
 
 #[derive(Clone, Copy)]
 pub struct Step {
-    pub number: u8,
-    pub outcome: Outcome,
-    pub fields: Fields,
+    pub scope: Scope,
+    pub fields: Operand,
+    pub last: u64,
     pub tlbip: bool,
     pub d128: bool,
 }
 
 // "1, 3 to 5 by the access rules [..], 6, 7"
-pub fn step_of(state: State, word: u64, xt: u64, xt2: u64) -> Step {
-    let op = decode(word);
-    let outcome = outcome(state, op.name, op.share, op.nxs, op.tlbip, op.rt);
-    if !op.known {
-        return without_fields(1, outcome);
-    }
-    if outcome.number != 0 {
-        return without_fields(outcome.number, outcome);
-    }
+pub fn step_of(state: State, word: u64, xt: u64, xt2: u64) -> Result<Step, Refusal> {
+    let op = decode(word).ok_or(Refusal::Unknown)?;
+    let scope = outcome(state, op)?;
     let told = Told {
         tlbip: op.tlbip,
-        form: form_of(outcome),
+        form: form_of(scope),
         lpa2: state.features.lpa2,
-        unit64k: unit_64k(state, outcome.regime, outcome.stage2),
+        unit64k: unit_64k(state, scope.regime, scope.stage2),
     };
-    let fields = read(told, first_register(op, xt), second_register(op, xt2));
-    if fields.number != 0 {
-        return without_fields(fields.number, outcome);
+    let fields = read(told, first_register(op, xt), second_register(op, xt2))?;
+    let last = last_address(fields).ok_or(Refusal::NoGranule)?;
+    if is_unpredictable(op.tlbip, fields) {
+        return Err(Refusal::Unpredictable);
     }
-    let number = if is_unpredictable(op.tlbip, fields) {
-        7
-    } else {
-        0
-    };
-    Step {
-        number,
-        outcome,
+    Ok(Step {
+        scope,
         fields,
+        last,
         tlbip: op.tlbip,
         d128: state.features.d128,
-    }
-}
-
-fn without_fields(number: u8, outcome: Outcome) -> Step {
-    Step {
-        number,
-        outcome,
-        fields: unread(0),
-        tlbip: false,
-        d128: false,
-    }
+    })
 }
 
 // "Rt 31 means a zero operand, whatever was passed; under SYSP with Rt 30, Xt2 counts as zero."
-fn first_register(op: Named, xt: u64) -> u64 {
+fn first_register(op: Operation, xt: u64) -> u64 {
     if op.rt == 31 { 0 } else { xt }
 }
 
-fn second_register(op: Named, xt2: u64) -> u64 {
-    if (op.rt == 31) | (op.rt == 30) | !op.tlbip {
+fn second_register(op: Operation, xt2: u64) -> u64 {
+    if !op.tlbip || matches!(op.rt, 30 | 31) {
         0
     } else {
         xt2
@@ -72,17 +52,17 @@ fn second_register(op: Named, xt2: u64) -> u64 {
 }
 
 // "two ranges with ASID, two without, one range, stage 2 with NS (Secure), or stage 2 without"
-fn form_of(outcome: Outcome) -> Form {
-    if outcome.stage2 {
-        if outcome.security == 0 {
+fn form_of(scope: Scope) -> Form {
+    if scope.stage2 {
+        if scope.security == Security::Secure {
             return Form::Stage2Ns;
         }
         return Form::Stage2NoNs;
     }
-    if outcome.regime > 1 {
+    if matches!(scope.regime, Regime::EL2 | Regime::EL3) {
         return Form::OneRange;
     }
-    if outcome.asid {
+    if scope.asid {
         Form::TwoRangesAsid
     } else {
         Form::TwoRanges

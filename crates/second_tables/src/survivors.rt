@@ -1,115 +1,87 @@
 // Whether an entry survives a list: it is put into a table of one slot, the list is run on it, and it is seen whether it is still there.
-use crate::asids::{asid_at, first_holder};
 use crate::entry::has_asids;
 use crate::execution::run;
-use crate::table::{insert, word_at};
+use crate::judging::Case;
+use crate::table::insert;
 use crate::tag::slot_at;
-use machine::{Entry, State, Target};
-use std::num::wrapping_add_u16;
+use machine::Entry;
 
-// 0 where every entry of the target at this place goes, 12 where the given one, the requirements', stays; 255 where that one goes and
-// another stays, or where a table does not take an entry or the list does not run: a contradiction that no list should show.
-pub fn number_at(state: State, target: Target, list: &[u64], entry: Entry) -> u8 {
-    let number = number_of(state, list, entry);
-    if number != 0 {
-        return number;
-    }
-    if others_go(state, target, list, entry) {
-        0
-    } else {
-        255
-    }
-}
+// That the requirements' entry goes where another of the target stays, or that a table does not take an entry or the list does not run: no
+// list should show it.
+#[derive(Clone, Copy, PartialEq, Eq)]
+pub struct Contradiction;
 
-// The same of one entry alone.
-fn number_of(state: State, list: &[u64], entry: Entry) -> u8 {
-    let mut table = [0; 3];
-    let inserted = insert(&mut table, entry, 0);
-    let ran = run(&mut table, state, list);
-    if (inserted.number != 0) | (ran.number != 0) {
-        return 255;
+impl Case<'_> {
+    // Whether the given entry, the requirements', stays. Where it goes, every entry of the target at its place has to go.
+    pub fn is_gap(&self, entry: Entry) -> Result<bool, Contradiction> {
+        if self.survives(entry)? {
+            return Ok(true);
+        }
+        if !self.others_go(entry)? {
+            return Err(Contradiction);
+        }
+        Ok(false)
     }
-    if is_there(&table) { 12 } else { 0 }
-}
 
-fn is_there(table: &[u64]) -> bool {
-    let read = slot_at(word_at(table, 0), word_at(table, 1));
-    !read.empty
-}
+    fn survives(&self, entry: Entry) -> Result<bool, Contradiction> {
+        let mut table = [0; 3];
+        insert(&mut table, entry, 0).map_err(|_| Contradiction)?;
+        run(&mut table, self.state, self.list).map_err(|_| Contradiction)?;
+        Ok(slot_at(table[0], table[1]).is_some())
+    }
 
-// The entries that the target asks for at the entry's place, in each ASID that tells them apart.
-fn others_go(state: State, target: Target, list: &[u64], entry: Entry) -> bool {
-    if !kinds_go(state, list, entry) {
-        return false;
+    // The entries that the target asks for at the entry's place, in each ASID that tells them apart.
+    fn others_go(&self, entry: Entry) -> Result<bool, Contradiction> {
+        if !self.kinds_go(entry)? {
+            return Ok(false);
+        }
+        if !has_asids(self.target.company) {
+            return Ok(true);
+        }
+        if self.target.asid.is_some() {
+            return self.foreign_globals_go(entry);
+        }
+        self.asids_go(entry)
     }
-    let company = target.company;
-    if !has_asids(company) {
-        return true;
-    }
-    if target.one {
-        return foreign_globals_go(state, list, entry);
-    }
-    asids_go(state, list, entry)
-}
 
-// XS 0 and 1, not global and, where that is legal, global.
-fn kinds_go(state: State, list: &[u64], entry: Entry) -> bool {
-    let company = entry.company;
-    if number_of(state, list, with_flags(entry, false, false)) != 0 {
-        return false;
+    // Not global and, where that is legal, global.
+    fn kinds_go(&self, entry: Entry) -> Result<bool, Contradiction> {
+        let both = entry.leaf && has_asids(entry.company);
+        Ok(self.both_xs_go(entry, false)? && (!both || self.both_xs_go(entry, true)?))
     }
-    if number_of(state, list, with_flags(entry, false, true)) != 0 {
-        return false;
-    }
-    if !entry.leaf | !has_asids(company) {
-        return true;
-    }
-    globals_go(state, list, entry)
-}
 
-fn globals_go(state: State, list: &[u64], entry: Entry) -> bool {
-    if number_of(state, list, with_flags(entry, true, false)) != 0 {
-        return false;
-    }
-    number_of(state, list, with_flags(entry, true, true)) == 0
-}
-
-// "A one-ASID target includes global leaves": those of another ASID too.
-fn foreign_globals_go(state: State, list: &[u64], entry: Entry) -> bool {
-    if !entry.leaf {
-        return true;
-    }
-    globals_go(
-        state,
-        list,
-        with_asid(entry, wrapping_add_u16(entry.asid, 1)),
-    )
-}
-
-// Each ASID that some step's operand holds.
-fn asids_go(state: State, list: &[u64], entry: Entry) -> bool {
-    for place in 0..16usize {
-        if place < list.len() / 3 {
-            let asid = asid_at(state, list, place);
-            if first_holder(state, list, asid) == place {
-                if !kinds_go(state, list, with_asid(entry, asid)) {
-                    return false;
-                }
+    // XS 0 and 1.
+    fn both_xs_go(&self, entry: Entry, global: bool) -> Result<bool, Contradiction> {
+        for xs in [false, true] {
+            if self.survives(Entry {
+                global,
+                xs,
+                ..entry
+            })? {
+                return Ok(false);
             }
         }
+        Ok(true)
     }
-    true
-}
 
-fn with_flags(entry: Entry, global: bool, xs: bool) -> Entry {
-    let mut changed = entry;
-    changed.global = global;
-    changed.xs = xs;
-    changed
-}
+    // "A one-ASID target includes global leaves": those of another ASID too.
+    fn foreign_globals_go(&self, entry: Entry) -> Result<bool, Contradiction> {
+        let asid = entry.asid.wrapping_add(1);
+        Ok(!entry.leaf || self.both_xs_go(Entry { asid, ..entry }, true)?)
+    }
 
-fn with_asid(entry: Entry, asid: u16) -> Entry {
-    let mut changed = entry;
-    changed.asid = asid;
-    changed
+    // Each ASID that some step's operand holds, at the first step that does.
+    fn asids_go(&self, entry: Entry) -> Result<bool, Contradiction> {
+        for (place, words) in self.steps().iter().enumerate() {
+            let asid = self.asid_in(*words).ok_or(Contradiction)?;
+            let earlier = self.steps().iter().take(place);
+            let is_met = earlier
+                .filter_map(|words| self.asid_in(*words))
+                .any(|met| met == asid);
+            if !is_met && !self.kinds_go(Entry { asid, ..entry })? {
+                return Ok(false);
+            }
+        }
+        Ok(true)
+    }
 }

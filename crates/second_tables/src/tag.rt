@@ -1,106 +1,79 @@
 // The slot's tag, read and written by the places of docs/TAG.md.
-use crate::bits::{bit_if, doubled, field, is_set};
-use crate::entry::{is_legal, nothing};
-use crate::numbers::{number_of_regime, number_of_security, regime_of, security_state_of};
-use machine::{Company, Entry};
-use std::num::wrapping_add_u64;
+use crate::bits::{doubled, field, is_set};
+use crate::entry::is_legal;
+use machine::{Company, Entry, Regime, Security};
 
-#[derive(Clone, Copy)]
-pub struct Slot {
-    pub empty: bool,
-    pub entry: Entry,
-}
+// What the tag has numbers for, in their order.
+const REGIMES: [Regime; 4] = [Regime::EL10, Regime::EL20, Regime::EL2, Regime::EL3];
+
+const SECURITIES: [Security; 4] = [
+    Security::Secure,
+    Security::NonSecure,
+    Security::Realm,
+    Security::Root,
+];
+
+// "3 minus the level: 0 to 4"
+const LEVELS: [i8; 5] = [3, 2, 1, 0, -1];
 
 // "A slot that insert couldn't have written makes no sense and reads as empty": its tag is not the one of the entry that stands in it, or
 // this entry is not legal.
-pub fn slot_at(base: u64, tag: u64) -> Slot {
-    let entry = standing(base, tag);
-    if is_legal(entry) & (tag_of(entry) == tag) {
-        Slot {
-            empty: false,
-            entry,
-        }
-    } else {
-        Slot {
-            empty: true,
-            entry: nothing(),
-        }
-    }
+pub fn slot_at(base: u64, tag: u64) -> Option<Entry> {
+    let entry = standing(base, tag)?;
+    (is_legal(entry) && tag_of(entry) == Some(tag)).then_some(entry)
 }
 
-pub fn tag_of(entry: Entry) -> u64 {
+fn number_in<T: PartialEq + Copy>(all: &[T], own: T) -> Option<u64> {
+    all.iter()
+        .position(|one| *one == own)
+        .map(|place| place as u64)
+}
+
+// None for a level that has no number.
+pub fn tag_of(entry: Entry) -> Option<u64> {
     let company = entry.company;
-    let regime = company.regime;
-    let security = company.security;
-    let tag = placed(1, number_of_regime(regime) as u64, 4);
-    let tag = placed(tag, number_of_security(security) as u64, 6);
-    let tag = placed(tag, company.vmid as u64, 8);
-    let tag = placed(tag, bit_if(company.stage2), 24);
-    let tag = placed(tag, bit_if(company.ns), 25);
-    let tag = placed(tag, entry.granule as u64, 26);
-    let tag = placed(tag, entry.asid as u64, 28);
-    let tag = placed(tag, bit_if(entry.global), 44);
-    let tag = placed(tag, bit_if(entry.wide), 45);
-    let tag = placed(tag, height_of(entry.level), 46);
-    let tag = placed(tag, bit_if(entry.leaf), 49);
-    let tag = placed(tag, bit_if(entry.xs), 50);
-    placed(tag, entry.processor as u64, 51)
+    let tag = [
+        (1, 0),
+        (number_in(&REGIMES, company.regime)?, 4),
+        (number_in(&SECURITIES, company.security)?, 6),
+        (u64::from(company.vmid), 8),
+        (u64::from(company.stage2), 24),
+        (u64::from(company.ns), 25),
+        (u64::from(entry.granule), 26),
+        (u64::from(entry.asid), 28),
+        (u64::from(entry.global), 44),
+        (u64::from(entry.wide), 45),
+        (number_in(&LEVELS, entry.level)?, 46),
+        (u64::from(entry.leaf), 49),
+        (u64::from(entry.xs), 50),
+        (u64::from(entry.processor), 51),
+    ]
+    .iter()
+    .fold(
+        0,
+        |tag: u64, &(value, low)| tag.wrapping_add(doubled(value, low)),
+    );
+    Some(tag)
 }
 
-fn standing(base: u64, tag: u64) -> Entry {
+fn standing(base: u64, tag: u64) -> Option<Entry> {
     let company = Company {
-        regime: regime_of(field(tag, 4, 2)),
-        security: security_state_of(field(tag, 6, 2)),
-        vmid: (field(tag, 8, 16) % 65536) as u16,
+        regime: *REGIMES.get(field(tag, 4, 2) as usize)?,
+        security: *SECURITIES.get(field(tag, 6, 2) as usize)?,
+        vmid: u16::try_from(field(tag, 8, 16)).ok()?,
         stage2: is_set(tag, 24),
         ns: is_set(tag, 25),
     };
-    Entry {
-        processor: (field(tag, 51, 3) % 8) as u8,
+    Some(Entry {
+        processor: u8::try_from(field(tag, 51, 3)).ok()?,
         company,
-        asid: (field(tag, 28, 16) % 65536) as u16,
+        asid: u16::try_from(field(tag, 28, 16)).ok()?,
         global: is_set(tag, 44),
         wide: is_set(tag, 45),
-        granule: (field(tag, 26, 2) % 4) as u8,
-        level: level_of(field(tag, 46, 3)),
+        granule: u8::try_from(field(tag, 26, 2)).ok()?,
+        level: *LEVELS.get(field(tag, 46, 3) as usize)?,
         leaf: is_set(tag, 49),
         xs: is_set(tag, 50),
         base,
-    }
-}
-
-fn placed(word: u64, value: u64, low: u8) -> u64 {
-    wrapping_add_u64(word, doubled(value, low))
-}
-
-// "3 minus the level: 0 to 4"; 7 is no level's.
-fn height_of(level: i8) -> u64 {
-    if level == 3 {
-        return 0;
-    }
-    if level == 2 {
-        return 1;
-    }
-    if level == 1 {
-        return 2;
-    }
-    if level == 0 {
-        return 3;
-    }
-    if level == -1 {
-        return 4;
-    }
-    7
-}
-
-// The level of a height; 100, which is none, from 5 on.
-fn level_of(height: u64) -> i8 {
-    match height {
-        0 => 3,
-        1 => 2,
-        2 => 1,
-        3 => 0,
-        4 => -1,
-        _ => 100,
-    }
+    })
 }

@@ -1,15 +1,11 @@
 // Instruction words and the listing's text, read off tables that are searched.
+// The second model says again what the rooms say, in another style: it is there to be compared with them.
 #![tactic(auto)]
 
-mod digits;
 mod line;
 mod listing;
-mod named;
 mod rows;
-mod spelling;
-mod texts;
 mod word;
 
 pub use listing::list;
-pub use named::Named;
 pub use word::{decode, encode};

@@ -1,63 +1,65 @@
-// A line of text, byte by byte, and its copy behind what stands in a buffer already.
+// What a line of the listing says: offset, TLBI or TLBIP, name, and registers.
+use machine::Operation;
+use std::fmt;
 
-// The longest line has an offset of 20 digits and 32 other bytes, so that there is always room.
+// The names' texts, and the shareabilities', in their order: local has no letters.
+const NAMES: [&str; 10] = [
+    "RVAE1",
+    "RVAAE1",
+    "RVALE1",
+    "RVAALE1",
+    "RVAE2",
+    "RVALE2",
+    "RVAE3",
+    "RVALE3",
+    "RIPAS2E1",
+    "RIPAS2LE1",
+];
+
+const SHARES: [&str; 3] = ["", "IS", "OS"];
+
+// "SYSP with odd Rt below 31 isn't listed."
+pub fn is_listed(op: &Operation) -> bool {
+    !op.tlbip || op.rt % 2 == 0 || op.rt == 31
+}
+
+// "Register 31 prints XZR."
+#[derive(Clone, Copy)]
+struct Register(u8);
+
+impl fmt::Display for Register {
+    fn fmt<W: fmt::Write>(&self, f: &mut fmt::Formatter<W>) -> fmt::Result {
+        if self.0 >= 31 {
+            write!(f, "XZR")
+        } else {
+            write!(f, "X{}", self.0)
+        }
+    }
+}
+
 #[derive(Clone, Copy)]
 pub struct Line {
-    pub bytes: [u8; 64],
-    pub len: usize,
+    pub offset: usize,
+    pub op: Operation,
 }
 
-pub fn empty() -> Line {
-    Line {
-        bytes: [0; 64],
-        len: 0,
+impl fmt::Display for Line {
+    // NXS goes after the shareability. Xt2 is the register after Xt; behind 30 and behind 31 it is register 31.
+    fn fmt<W: fmt::Write>(&self, f: &mut fmt::Formatter<W>) -> fmt::Result {
+        let op = self.op;
+        write!(
+            f,
+            "{} {} {}{}{}, {}",
+            self.offset,
+            if op.tlbip { "TLBIP" } else { "TLBI" },
+            NAMES[op.name as usize],
+            SHARES[op.share as usize],
+            if op.nxs { "NXS" } else { "" },
+            Register(op.rt)
+        )?;
+        if op.tlbip {
+            write!(f, ", {}", Register(op.rt.saturating_add(1)))?;
+        }
+        Ok(())
     }
-}
-
-pub fn with_byte(line: Line, byte: u8) -> Line {
-    let len = line.len;
-    if len >= 64 {
-        return line;
-    }
-    let mut longer = line;
-    longer.bytes[len] = byte;
-    longer.len = len + 1;
-    longer
-}
-
-pub fn with_text(line: Line, text: &[u8]) -> Line {
-    let mut longer = line;
-    for i in 0..text.len() {
-        longer = with_byte(longer, text[i]);
-    }
-    longer
-}
-
-// The place behind the byte, or `at` where there is no room.
-fn put_byte(out: &mut [u8], at: usize, byte: u8) -> usize {
-    if at < out.len() {
-        out[at] = byte;
-        return at + 1;
-    }
-    at
-}
-
-fn put_one(out: &mut [u8], at: usize, line: Line, i: usize) -> usize {
-    if i >= line.len {
-        return at;
-    }
-    if i >= 64 {
-        return at;
-    }
-    let bytes = line.bytes;
-    put_byte(out, at, bytes[i])
-}
-
-// The place behind the line, which the buffer's end may cut off.
-pub fn put_line(out: &mut [u8], at: usize, line: Line) -> usize {
-    let mut next = at;
-    for i in 0..64usize {
-        next = put_one(out, next, line, i);
-    }
-    next
 }

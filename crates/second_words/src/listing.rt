@@ -1,46 +1,41 @@
-// The listing's whole text: the code byte by byte, a word at each fourth.
-use crate::line::put_line;
-use crate::spelling::{is_listed, operation_line, tail_line};
+// The listing's whole text: a line for each word that is an operation and is listed, and one for what is left of the code.
+use crate::line::{Line, is_listed};
 use crate::word::decode;
+use std::alloc::{AllocError, Global};
 
-// Little-endian: byte `place` of a word counts 256 ^ place.
-fn with_next(word: u64, place: usize, byte: u8) -> u64 {
-    let held = word % 16777216;
-    match place {
-        0 => byte as u64,
-        1 => held % 256 + 256 * (byte as u64),
-        2 => held % 65536 + 65536 * (byte as u64),
-        _ => held + 16777216 * (byte as u64),
+pub fn list(alloc: Global, code: &[u8]) -> Result<String, AllocError> {
+    let mut text = String::new(alloc);
+    let (words, left) = code.as_chunks::<4>();
+    for (place, word) in words.iter().enumerate() {
+        if let Some(op) = decode(number_of(*word)).filter(is_listed) {
+            let offset = 4 * place;
+            writeln!(text, "{}", Line { offset, op })?;
+        }
     }
+    // "No tail line if none."
+    if !left.is_empty() {
+        writeln!(text, "tail {}", left.len())?;
+    }
+    Ok(text)
 }
 
-// A line where byte `i` ends a word that is listed.
-fn put_word(out: &mut [u8], at: usize, i: usize, word: u64) -> usize {
-    if i % 4 != 3 {
-        return at;
-    }
-    let op = decode(word);
-    if !is_listed(op) {
-        return at;
-    }
-    let offset = std::num::wrapping_sub_u64(i as u64, 3);
-    put_line(out, at, operation_line(offset, op))
+// Little-endian: byte k of a word counts 256 ^ k.
+fn number_of(word: [u8; 4]) -> u64 {
+    word.iter().rev().fold(
+        0,
+        |number: u64, byte| number.wrapping_mul(256).wrapping_add(u64::from(*byte)),
+    )
 }
 
-// "No tail line if none."
-fn put_tail(out: &mut [u8], at: usize, left: u64) -> usize {
-    if left == 0 {
-        return at;
-    }
-    put_line(out, at, tail_line(left))
-}
+#[cfg(test)]
+mod tests {
+    use super::*;
 
-pub fn list(code: &[u8], out: &mut [u8]) -> usize {
-    let mut at = 0;
-    let mut word = 0;
-    for i in 0..code.len() {
-        word = with_next(word, i % 4, code[i]);
-        at = put_word(out, at, i, word);
+    // RVAAE1IS with X0, a word that is no operation, and a byte that is left.
+    #[test]
+    fn lists_an_operation_and_a_tail(rt: HostRuntime) -> Result<(), AllocError> {
+        let text = list(rt.alloc(), &[0x60, 0x82, 0x08, 0xD5, 0, 0, 0, 0, 1])?;
+        assert_eq!(rt; text.as_str(), "0 TLBI RVAAE1IS, X0\ntail 1\n");
+        Ok(())
     }
-    put_tail(out, at, (code.len() % 4) as u64)
 }

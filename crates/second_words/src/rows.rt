@@ -1,41 +1,55 @@
 // 'Instruction words' written out: one row for each name and shareability, and a search by either side of a row.
+use machine::{Name, Share};
 
-// Five hexadecimal digits a row: name, share, op1, CRm, op2.
-const ROWS: [u64; 30] = [
+// op1, CRm and op2, as a word has them.
+pub type Numbers = [u8; 3];
+
+const ROWS: [(Name, Share, Numbers); 30] = [
     // op1 0: CRm 2 IS, 5 OS, 6 local; op2 1 RVAE1, 3 RVAAE1, 5 RVALE1, 7 RVAALE1.
-    0x01021, 0x02051, 0x00061, 0x11023, 0x12053, 0x10063, 0x21025, 0x22055, 0x20065, 0x31027,
-    0x32057, 0x30067,
+    (Name::RVAE1, Share::Inner, [0, 2, 1]),
+    (Name::RVAE1, Share::Outer, [0, 5, 1]),
+    (Name::RVAE1, Share::Local, [0, 6, 1]),
+    (Name::RVAAE1, Share::Inner, [0, 2, 3]),
+    (Name::RVAAE1, Share::Outer, [0, 5, 3]),
+    (Name::RVAAE1, Share::Local, [0, 6, 3]),
+    (Name::RVALE1, Share::Inner, [0, 2, 5]),
+    (Name::RVALE1, Share::Outer, [0, 5, 5]),
+    (Name::RVALE1, Share::Local, [0, 6, 5]),
+    (Name::RVAALE1, Share::Inner, [0, 2, 7]),
+    (Name::RVAALE1, Share::Outer, [0, 5, 7]),
+    (Name::RVAALE1, Share::Local, [0, 6, 7]),
     // op1 4: the same CRm; op2 1 RVAE2, 5 RVALE2.
-    0x41421, 0x42451, 0x40461, 0x51425, 0x52455, 0x50465,
+    (Name::RVAE2, Share::Inner, [4, 2, 1]),
+    (Name::RVAE2, Share::Outer, [4, 5, 1]),
+    (Name::RVAE2, Share::Local, [4, 6, 1]),
+    (Name::RVALE2, Share::Inner, [4, 2, 5]),
+    (Name::RVALE2, Share::Outer, [4, 5, 5]),
+    (Name::RVALE2, Share::Local, [4, 6, 5]),
     // op1 6: the same CRm; op2 1 RVAE3, 5 RVALE3.
-    0x61621, 0x62651, 0x60661, 0x71625, 0x72655, 0x70665,
+    (Name::RVAE3, Share::Inner, [6, 2, 1]),
+    (Name::RVAE3, Share::Outer, [6, 5, 1]),
+    (Name::RVAE3, Share::Local, [6, 6, 1]),
+    (Name::RVALE3, Share::Inner, [6, 2, 5]),
+    (Name::RVALE3, Share::Outer, [6, 5, 5]),
+    (Name::RVALE3, Share::Local, [6, 6, 5]),
     // op1 4, CRm 0: op2 2 RIPAS2E1IS, 6 RIPAS2LE1IS.
-    0x81402, 0x91406,
+    (Name::RIPAS2E1, Share::Inner, [4, 0, 2]),
+    (Name::RIPAS2LE1, Share::Inner, [4, 0, 6]),
     // op1 4, CRm 4: op2 2 RIPAS2E1, 6 RIPAS2LE1, 3 RIPAS2E1OS, 7 RIPAS2LE1OS.
-    0x80442, 0x90446, 0x82443, 0x92447,
+    (Name::RIPAS2E1, Share::Local, [4, 4, 2]),
+    (Name::RIPAS2LE1, Share::Local, [4, 4, 6]),
+    (Name::RIPAS2E1, Share::Outer, [4, 4, 3]),
+    (Name::RIPAS2LE1, Share::Outer, [4, 4, 7]),
 ];
 
-// What no row is.
-pub const NO_ROW: u64 = 0xFFFFF;
-
-// The row whose last three digits are op1, CRm and op2.
-pub fn row_of_numbers(op1: u64, crm: u64, op2: u64) -> u64 {
-    for i in 0..30usize {
-        let row = ROWS[i];
-        if (row / 256 % 16 == op1) & (row / 16 % 16 == crm) & (row % 16 == op2) {
-            return row;
-        }
-    }
-    NO_ROW
+pub fn row_of(numbers: Numbers) -> Option<(Name, Share)> {
+    ROWS.iter()
+        .find(|row| row.2 == numbers)
+        .map(|row| (row.0, row.1))
 }
 
-// The row whose first two digits are name and share.
-pub fn row_of_name(name: u8, share: u8) -> u64 {
-    for i in 0..30usize {
-        let row = ROWS[i];
-        if (row / 65536 == name as u64) & (row / 4096 % 16 == share as u64) {
-            return row;
-        }
-    }
-    NO_ROW
+pub fn numbers_of(name: Name, share: Share) -> Option<Numbers> {
+    ROWS.iter()
+        .find(|row| row.0 == name && row.1 == share)
+        .map(|row| row.2)
 }

@@ -35,15 +35,5 @@ pub fn exponent_of(wide: bool, tg: u64, level: i8) -> u64
 pub fn has_span(wide: bool, tg: u64, level: i8) -> bool
     ensures { result ≡ has_span wide tg level }
 {
-    if tg < 1 {
-        return false;
-    }
-    if 3 < tg {
-        return false;
-    }
-    if is_level(level) {
-        exponent_of(wide, tg, level) <= 54
-    } else {
-        false
-    }
+    matches!(tg, 1..=3) && is_level(level) && exponent_of(wide, tg, level) <= 54
 }

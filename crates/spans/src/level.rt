@@ -6,7 +6,7 @@ ghost use Rattle.machine.specs.Span.{is_level, height_of};
 pub fn is_level(level: i8) -> bool
     ensures { result ≡ is_level level }
 {
-    (-1 <= level) & (level <= 3)
+    matches!(level, -1..=3)
 }
 
 // 3 minus the level.

@@ -1,4 +1,5 @@
-// Levels and their spans.
+// Levels and their spans. Exponents, TGs and levels come as plain numbers, as entries, tags and operands hold them:
+// a type for each would be made and taken apart at every call.
 #![tactic(auto)]
 
 mod exponent;

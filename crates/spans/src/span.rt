@@ -26,8 +26,8 @@ pub fn is_multiple(base: u64, k: u64) -> bool
 }
 
 pub fn in_span(base: u64, k: u64, address: u64) -> bool
-    requires { (k ≤ 63) × (base % 2 ^ k ≡ 0) }
+    requires { k ≤ 63 }
     ensures { result ≡ in_span base k address }
 {
-    (base <= address) & (address <= base + (size(k) - 1))
+    base <= address && address - base < size(k)
 }

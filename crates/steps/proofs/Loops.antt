@@ -1,6 +1,6 @@
 -- Loops over the works of a list's steps.
 use Prim.Native.Nat.{ℕ, ◌+◌, ◌^◌, ◌<◌, ◌≤◌}
-use mathlib.Core.Bool.{Bool, true, false, cond, not, ◌&&◌, or_comm}
+use mathlib.Core.Bool.{Bool, true, false, cond, not, or_comm}
 use mathlib.Core.List.{List}
 use mathlib.Core.Path.{◌≡◌, refl, sym, ap, subst, ◌∙◌}
 use native.Mathlib.Decide.{ℕ_discrete}
@@ -10,119 +10,91 @@ use lib.Dec.{eqb, ltb}
 use lib.ListN.{length, set}
 use lib.Seq.{get_or-set_same, get_or-set_other}
 use borrow.Author.Tests.{eqb-true, eq-eqb, ne_eqb, ltb-false, not-true, not-false}
+use Rattle.laws.proofs.Truth.{clash}
+use Rattle.std.specs.Prelude.{Option, Some, None, Ok}
+use Rattle.std.specs.Option.{option_or}
 use Rattle.laws.proofs.Any.{any-turn, any-end, any_same}
 use Rattle.laws.proofs.Bits.{and-bit, or-bit, power-bit}
 use Rattle.laws.proofs.Every.{at, every_more, every-end, every-same}
-use Rattle.laws.proofs.Truth.{clash}
 use Rattle.laws.specs.Every.{every, any}
 use Rattle.laws.specs.Mask.{bit_of}
 use Rattle.laws.specs.Slots.{slots}
-use Rattle.machine.specs.Judge.{holds_asid}
+use Rattle.machine.specs.Judge.{holds_number, holds_asid}
 use Rattle.machine.specs.Table.{same_company}
 use Rattle.machine.specs.declared.entry.Company.{Company}
 use Rattle.machine.specs.declared.processor.State.{State}
 use Rattle.machine.specs.declared.work.Work.{Work}
-use Rattle.steps.specs.Steps.{no_work, work_in, work_at, step_at, AreSteps, Checks, asid_bit, unchecked, with_step}
+use Rattle.steps.specs.Steps.{no_work, work_in, work_at, step_at, AreSteps, FirstNone, FirstOther, Checks, asid_bit, unchecked, with_step}
 use Rattle.steps.specs.declared.checks.Checked.{Checked}
 
--- A pass over the numbers below n that keeps the first with a property, or n: at its start, at a turn and at its end.
-pub record FirstBelow (f : ℕ → Bool) (n i r : ℕ) : Type 0 where
-  pub most : r ≤ n
-  pub lower : (x : ℕ) → x < i → x < r → f x ≡ false
-  pub here : r < n → (r < i) × (f r ≡ true)
+-- The first number below i without a property, if there is one: at the start of a pass, and at a turn.
+abbrev pub FirstBelow : (ℕ → Bool) → ℕ → Option ℕ → Type 0
+FirstBelow f i None = (x : ℕ) → x < i → f x ≡ true
+FirstBelow f i (Some k) = (k < i) × ((x : ℕ) → x < k → f x ≡ true) × (f k ≡ false)
 
-pub first-start : (f : ℕ → Bool) (n : ℕ) → FirstBelow f n 0 n
-first-start f n = record {
-  most = omega arith;
-  lower = λ (x : ℕ) (l : x < 0) (m : x < n). absurd (let z : ⊥ = omega arith in z);
-  here = λ (l : n < n). absurd (let z : ⊥ = omega arith in z);
-}
-
-pub first_more : (f : ℕ → Bool) (n i r : ℕ) → i < n → FirstBelow f n i r → FirstBelow f n (i + 1) (cond (f i && eqb r n) i r)
-first_more f n i r l h = go (f i) refl (eqb r n) refl
+first-more : (f : ℕ → Bool) (i : ℕ) (r : Option ℕ) → FirstBelow f i r → FirstBelow f (i + 1) (option_or r (cond (f i) None (Some i)))
+first-more f i (Some k) (l, h, e) = (omega arith, h, e)
+first-more f i None h = go (f i) refl
   where
-    kept : (r < n → i < r → f i ≡ false) → (r ≡ n → f i ≡ false) → FirstBelow f n (i + 1) r
-    kept found none = record { most = h.most; lower = lower; here = λ (m : r < n). let (k, e) = h.here m in (omega arith, e) }
+    go : (b : Bool) → f i ≡ b → FirstBelow f (i + 1) (cond b None (Some i))
+    go true e = λ (x : ℕ) (l : x < i + 1). by x l (ℕ_discrete x i)
       where
-        at : Dec (r ≡ n) → i < r → f i ≡ false
-        at (yes e) m = none e
-        at (no d) m = found (omega (arith, h.most)) m
+        by : (x : ℕ) → x < i + 1 → Dec (x ≡ i) → f x ≡ true
+        by x l (yes p) = ap f p ∙ e
+        by x l (no d) = h x (omega arith)
+    go false e = (omega arith, h, e)
 
-        by : (x : ℕ) → x < i + 1 → x < r → Dec (x ≡ i) → f x ≡ false
-        by x k m (yes e) = ap f e ∙ at (ℕ_discrete r n) (omega arith)
-        by x k m (no d) = h.lower x (omega arith) m
-
-        lower : (x : ℕ) → x < i + 1 → x < r → f x ≡ false
-        lower x k m = by x k m (ℕ_discrete x i)
-
-    go : (a : Bool) → f i ≡ a → (b : Bool) → eqb r n ≡ b → FirstBelow f n (i + 1) (cond (a && b) i r)
-    go true e true d =
-        let all : r ≡ n = eqb-true r n d in
-        record { most = omega arith; lower = λ (x : ℕ) (k : x < i + 1) (m : x < i). h.lower x m (omega arith); here = λ (m : i < n). (omega arith, e) }
-    go true e false d =
-        kept (λ (m : r < n) (k : i < r). absurd (let z = h.here m in omega (arith, z.0))) (λ (same : r ≡ n). clash (eq-eqb r n same) d)
-    go false e b d = kept (λ (m : r < n) (k : i < r). e) (λ (same : r ≡ n). e)
-
--- What was said of the works of the steps below i, of n.
-pub record Checking (c : Company) (w : ℕ → Work) (n i : ℕ) (r : Checked) : Type 0 where
-  pub refused : FirstBelow (λ (x : ℕ). eqb (w x).granule 0) n i r.refused
-  pub outside : FirstBelow (λ (x : ℕ). not (same_company (w x).company c)) n i r.outside
+-- What was said of the works of the steps below i.
+pub record Checking (c : Company) (w : ℕ → Work) (i : ℕ) (r : Checked) : Type 0 where
+  pub refused : FirstBelow (λ (x : ℕ). not (eqb (w x).granule 0)) i r.refused
+  pub outside : FirstBelow (λ (x : ℕ). same_company (w x).company c) i r.outside
   pub common : (p : ℕ) → p < 8 → bit_of r.common p ≡ every (λ (x : ℕ). bit_of (w x).reached p) i
   pub used : (a : ℕ) → a < 16 → bit_of r.used a ≡ any (λ (x : ℕ). holds_asid a (w x)) i
 
-pub checking-start : (c : Company) (w : ℕ → Work) (n : ℕ) → Checking c w n 0 (unchecked n)
+pub checking-start : (c : Company) (w : ℕ → Work) → Checking c w 0 unchecked
 unfolding every any
-checking-start c w n = record {
-  refused = first-start (λ (x : ℕ). eqb (w x).granule 0) n;
-  outside = first-start (λ (x : ℕ). not (same_company (w x).company c)) n;
+checking-start c w = record {
+  refused = λ (x : ℕ) (l : x < 0). absurd (omega arith);
+  outside = λ (x : ℕ) (l : x < 0). absurd (omega arith);
   common = at (bit_of 255) 8 refl;
   used = λ (a : ℕ) (l : a < 16). not-true (bit_of 0 a) (at (λ (b : ℕ). not (bit_of 0 b)) 16 refl a l);
 }
 
 -- the bit of a used ASID
-asid-bit : (one : Bool) (asid a : ℕ) → a < 16 → bit_of (asid_bit one asid) a ≡ (one && eqb asid a)
+asid-bit : (asid : Option ℕ) (a : ℕ) → a < 16 → bit_of (asid_bit asid) a ≡ holds_number a asid
 unfolding every
-asid-bit one asid a l = go one (ltb asid 16) refl
+asid-bit asid a l = go asid
   where
     none : bit_of 0 a ≡ false
     none = not-true (bit_of 0 a) (at (λ (b : ℕ). not (bit_of 0 b)) 16 refl a l)
 
-    go : (o b : Bool) → ltb asid 16 ≡ b → bit_of (cond (o && b) (2 ^ asid) 0) a ≡ (o && eqb asid a)
-    go true true e = power-bit asid a
-    go true false e = let m : 16 ≤ asid = ltb-false asid 16 e in none ∙ sym (ne_eqb asid a (λ (i : asid ≡ a). omega arith))
-    go false b e = none
+    by : (n : ℕ) (b : Bool) → ltb n 16 ≡ b → bit_of (cond b (2 ^ n) 0) a ≡ eqb n a
+    by n true e = power-bit n a
+    by n false e = let m : 16 ≤ n = ltb-false n 16 e in none ∙ sym (ne_eqb n a (λ (i : n ≡ a). omega arith))
 
-pub checking-more : (c : Company) (w : ℕ → Work) (n i : ℕ) (v : Work) (r : Checked) → i < n → v ≡ w i → Checking c w n i r → Checking c w n (i + 1) (with_step r c n i v)
-checking-more c w n i v r l e h = subst (λ (x : Work). Checking c w n (i + 1) (with_step r c n i x)) (sym e) (record {
-  refused = first_more (λ (x : ℕ). eqb (w x).granule 0) n i r.refused l h.refused;
-  outside = first_more (λ (x : ℕ). not (same_company (w x).company c)) n i r.outside l h.outside;
+    go : (o : Option ℕ) → bit_of (asid_bit o) a ≡ holds_number a o
+    go None = none
+    go (Some n) = by n (ltb n 16) refl
+
+pub checking-more : (c : Company) (w : ℕ → Work) (i : ℕ) (v : Work) (r : Checked) → v ≡ w i → Checking c w i r → Checking c w (i + 1) (with_step r c i v)
+checking-more c w i v r e h = subst (λ (x : Work). Checking c w (i + 1) (with_step r c i x)) (sym e) (record {
+  refused = first-more (λ (x : ℕ). not (eqb (w x).granule 0)) i r.refused h.refused;
+  outside = first-more (λ (x : ℕ). same_company (w x).company c) i r.outside h.outside;
   common = λ (p : ℕ) (k : p < 8). and-bit (w i).reached r.common p ∙ every_more (λ (x : ℕ). bit_of (w x).reached p) i (bit_of (w i).reached p) (bit_of r.common p) refl (h.common p k);
   used = used;
 })
   where
-    used : (a : ℕ) → a < 16 → bit_of (bit_or r.used (asid_bit (w i).one (w i).asid)) a ≡ any (λ (x : ℕ). holds_asid a (w x)) (i + 1)
+    used : (a : ℕ) → a < 16 → bit_of (bit_or r.used (asid_bit (w i).asid)) a ≡ any (λ (x : ℕ). holds_asid a (w x)) (i + 1)
     used a k =
-        or-bit r.used (asid_bit (w i).one (w i).asid) a
-        ∙ or_comm (bit_of r.used a) (bit_of (asid_bit (w i).one (w i).asid) a)
-        ∙ any-turn (λ (x : ℕ). holds_asid a (w x)) i (bit_of (asid_bit (w i).one (w i).asid) a) (bit_of r.used a) (asid-bit (w i).one (w i).asid a k) (h.used a k)
+        or-bit r.used (asid_bit (w i).asid) a
+        ∙ or_comm (bit_of r.used a) (bit_of (asid_bit (w i).asid) a)
+        ∙ any-turn (λ (x : ℕ). holds_asid a (w x)) i (bit_of (asid_bit (w i).asid) a) (bit_of r.used a) (asid-bit (w i).asid a k) (h.used a k)
 
 pub checking-end : (c : Company) (w : ℕ → Work) (works : List Work) (n i : ℕ) (r : Checked) → i ≤ n → n ≤ i → ((x : ℕ) → x < n → work_at works x ≡ w x) →
-    Checking c w n i r → Checks c works n r
+    Checking c w i r → Checks c works n r
 checking-end c w works n i r k l same h = record {
-  refused = record {
-    most = h.refused.most;
-    lower = λ (x : ℕ) (m : x < r.refused) (e : (work_at works x).granule ≡ 0).
-        let below = h.refused.most in
-        clash (eq-eqb (w x).granule 0 (ap granule (sym (same x (omega arith))) ∙ e)) (h.refused.lower x (omega arith) m);
-    here = λ (m : r.refused < n). ap granule (same r.refused m) ∙ eqb-true (w r.refused).granule 0 (h.refused.here m).1;
-  };
-  outside = record {
-    most = h.outside.most;
-    lower = λ (x : ℕ) (m : x < r.outside).
-        let below = h.outside.most in
-        ap own (same x (omega arith)) ∙ not-false (same_company (w x).company c) (h.outside.lower x (omega arith) m);
-    here = λ (m : r.outside < n). ap own (same r.outside m) ∙ not-true (same_company (w r.outside).company c) (h.outside.here m).1;
-  };
+  refused = none r.refused h.refused;
+  outside = outside r.outside h.outside;
   common = λ (p : ℕ) (b : p < 8).
       every-end (λ (x : ℕ). bit_of (w x).reached p) i n (bit_of r.common p) (h.common p b) k l
       ∙ every-same (λ (x : ℕ). bit_of (w x).reached p) (λ (x : ℕ). bit_of (work_at works x).reached p) n (λ (x : ℕ) (m : x < n). ap (reaches p) (sym (same x m)));
@@ -131,29 +103,43 @@ checking-end c w works n i r k l same h = record {
       ∙ any_same (λ (x : ℕ). holds_asid a (w x)) (λ (x : ℕ). holds_asid a (work_at works x)) n (λ (x : ℕ) (m : x < n). ap (holds_asid a) (sym (same x m)));
 }
   where
+    own : Work → Bool
+    own v = same_company v.company c
+
+    outside : (o : Option ℕ) → FirstBelow (λ (x : ℕ). own (w x)) i o → FirstOther c works n o
+    outside None f = λ (x : ℕ) (m : x < n). ap own (same x m) ∙ f x (omega arith)
+    outside (Some x) (m, f, e) = (omega arith, λ (y : ℕ) (b : y < x). ap own (same y (omega arith)) ∙ f y b, ap own (same x (omega arith)) ∙ e)
+
     granule : Work → ℕ
     granule v = v.granule
 
-    own : Work → Bool
-    own v = same_company v.company c
+    none : (o : Option ℕ) → FirstBelow (λ (x : ℕ). not (eqb (w x).granule 0)) i o → FirstNone works n o
+    none None f = λ (x : ℕ) (m : x < n) (z : (work_at works x).granule ≡ 0).
+        clash (eq-eqb (w x).granule 0 (ap granule (sym (same x m)) ∙ z)) (not-true (eqb (w x).granule 0) (f x (omega arith)))
+    none (Some x) (m, f, e) = (
+      omega arith,
+      λ (y : ℕ) (b : y < x) (z : (work_at works y).granule ≡ 0).
+          clash (eq-eqb (w y).granule 0 (ap granule (sym (same y (omega arith))) ∙ z)) (not-true (eqb (w y).granule 0) (f y b)),
+      ap granule (same x (omega arith)) ∙ eqb-true (w x).granule 0 (not-false (eqb (w x).granule 0) e),
+    )
 
     reaches : ℕ → Work → Bool
     reaches p v = bit_of v.reached p
 
--- the work of step x, and: the works below i are those of the steps
+-- the work of step x, and: the steps below i have work, which the list of works has
 abbrev pub step_work : State → List ℕ → ℕ → Work
 step_work st steps x = work_in (step_at st steps x)
 
 abbrev pub Each : State → List ℕ → List Work → ℕ → Type 0
-Each st steps works i = (x : ℕ) → x < i → work_at works x ≡ step_work st steps x
+Each st steps works i = (x : ℕ) → x < i → step_at st steps x ≡ Ok (work_at works x)
 
-pub each_more : (st : State) (steps : List ℕ) (works : List Work) (i : ℕ) (w : Work) → i < length works → w ≡ step_work st steps i → Each st steps works i →
+pub each_more : (st : State) (steps : List ℕ) (works : List Work) (i : ℕ) (w : Work) → i < length works → step_at st steps i ≡ Ok w → Each st steps works i →
     Each st steps (set works i w) (i + 1)
 each_more st steps works i w l e h x m = go (ℕ_discrete x i)
   where
-    go : Dec (x ≡ i) → work_at (set works i w) x ≡ step_work st steps x
-    go (yes p) = subst (λ (y : ℕ). work_at (set works i w) y ≡ step_work st steps y) (sym p) (get_or-set_same works i w no_work l ∙ e)
-    go (no d) = get_or-set_other works i x w no_work d ∙ h x (omega arith)
+    go : Dec (x ≡ i) → step_at st steps x ≡ Ok (work_at (set works i w) x)
+    go (yes p) = subst (λ (y : ℕ). step_at st steps y ≡ Ok (work_at (set works i w) y)) (sym p) (e ∙ ap Ok (sym (get_or-set_same works i w no_work l)))
+    go (no d) = h x (omega arith) ∙ ap Ok (sym (get_or-set_other works i x w no_work d))
 
 pub each-end : (st : State) (steps : List ℕ) (works : List Work) (i : ℕ) → slots steps ≤ i → Each st steps works i → AreSteps st steps works
-each-end st steps works i m h = record { each = λ (x : ℕ) (k : x < slots steps). h x (omega arith) }
+each-end st steps works i m h = record { each = λ (x : ℕ) (k : x < slots steps). ap work_in (sym (h x (omega arith))) }

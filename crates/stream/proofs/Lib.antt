@@ -1,3 +1,2 @@
--- Laws of this room's own.
-
-pub mod Move
+-- Laws of this room.
+pub mod Owed

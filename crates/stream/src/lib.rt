@@ -1,7 +1,11 @@
 // The listing of what a reader gives, written to a writer: the shell round the proved listing of a piece.
 #![tactic(auto)]
 
-ghost use Rattle.std.specs.Prelude.{◌≡◌, ◌+◌, ◌<◌, ◌≤◌, length, take, drop, IfOk};
+ghost use Rattle.std.specs.Prelude.{◌≡◌, ◌+◌, ◌%◌, ◌^◌, ◌<◌, ◌≤◌, length, take, drop, OnOk, IfOk, IfSome};
+ghost use Rattle.std.specs.Bool.{OnTrue, OnFalse};
+ghost use Rattle.std.specs.Io.KnownBytes.{Appends, Consumes, IsAtEnd};
+ghost use Rattle.machine.specs.Listing.{lines_of, tail_of};
+ghost use Rattle.stream.specs.Whole.{listing_from, Moves};
 
 use std::io;
 use std::io::{Read, Write};
@@ -17,159 +21,129 @@ pub enum StreamError {
 }
 
 // Lists the code that `input` gives to `output`. Its first byte has the offset `at`, and no more than `most` bytes are
-// read at a time. A word that is cut by a read is held over to the next. A read that fails ends the listing as the end of
-// the input does, and then is the error; a write that fails ends it at once.
+// read at a time. A word that is cut by a read is held over to the next. A read that fails ends the listing as the end
+// of the input does, and then is the error; a write that fails ends it at once.
 pub fn list_stream<R: Read, W: Write>(
     input: &mut R,
     output: &mut W,
     at: u64,
     most: usize,
-) -> Result<(), StreamError> {
-    let mut code = [0u8; 65536];
-    let mut text = [0u8; 65536];
-    stream_by(input, output, at, most, &mut code, &mut text)
-}
-
-// A proved loop has to end, and nothing says that an input does. So it counts its turns down, from a number that no
-// run uses up.
-fn stream_by<R: Read, W: Write>(
-    input: &mut R,
-    output: &mut W,
-    at: u64,
-    most: usize,
-    code: &mut [u8],
-    text: &mut [u8],
 ) -> Result<(), StreamError>
-    requires { (8 ≤ length code.old) × (52 ≤ length text.old) }
+    ensures { OnOk result (IfSome (R.remaining input.old) (λ code. length code + 1 < 2 ^ 64 →
+        Appends (W.contents output.old) (W.contents output.new) (listing_from at code))) }
 {
-    let mut offset = at;
-    let mut held = 0;
-    let mut turns = u64::MAX;
-    while 0 < turns {
-        let turn = next_piece(input, output, offset, most, held, code, text)?;
-        if !turn.more {
-            return write_tail(turn.held, output, text).map_err(StreamError::Output);
+    let mut pieces = Pieces {
+        code: [0; 65536],
+        text: [0; 65536],
+        held: 0,
+        offset: at,
+    };
+    // A proved loop has to end, and nothing says that an input does: no run uses these turns up.
+    for _turn in 0..u64::MAX {
+        if !pieces.list_next(input, output, most)? {
+            return pieces.write_tail(output).map_err(StreamError::Output);
         }
-        held = turn.held;
-        offset = offset.wrapping_add(turn.used as u64);
-        turns -= 1;
     }
     Ok(())
 }
 
-// What a piece leaves: bytes held over at the front of the buffer, bytes that are listed, and whether to go on.
-#[derive(Clone, Copy)]
-struct Turn {
+// Code on its way to its listing: the first `held` bytes of `code` are read and not listed yet, and the first of them
+// has the offset `offset`.
+// Arrays of a fixed size, and no Vec, which could fail to grow: `StreamError` has two cases, as the pages say.
+#[derive(Drop)]
+struct Pieces {
+    code: [u8; 65536],
+    text: [u8; 65536],
     held: usize,
-    used: usize,
-    more: bool,
+    offset: u64,
+    ghost few: { held ≤ 3 },
+    ghost within: { held ≤ length code },
 }
 
-// Reads a piece behind the bytes held over and lists it.
-fn next_piece<R: Read, W: Write>(
-    input: &mut R,
-    output: &mut W,
-    at: u64,
-    most: usize,
-    held: usize,
-    code: &mut [u8],
-    text: &mut [u8],
-) -> Result<Turn, StreamError>
-    requires { (held ≤ 3) × (8 ≤ length code.old) × (52 ≤ length text.old) }
-    ensures held { IfOk result (λ t. t.held ≤ 3) }
-    ensures lengths { (length code.new ≡ length code.old) × (length text.new ≡ length text.old) }
-{
-    let end = piece_end(held, most, code.len());
-    let read = match read_more(input, code, held, end) {
-        Ok(read) => read,
-        Err(error) => {
-            // The read failed first, so its error is the answer, even where the tail cannot be written.
-            let _ = write_tail(held, output, text);
-            return Err(StreamError::Input(error));
+impl Pieces {
+    // Reads a piece behind the bytes held over and lists it; there is none at the end of the input.
+    fn list_next<R: Read, W: Write>(
+        &mut self,
+        input: &mut R,
+        output: &mut W,
+        most: usize,
+    ) -> Result<bool, StreamError>
+        ensures more { IfOk result (λ more. OnTrue more (Moves
+            (R.remaining input.old) (R.remaining input.new)
+            (W.contents output.old) (W.contents output.new) self.old.offset self.new.offset
+            (take self.old.held self.old.code) (take self.new.held self.new.code))) }
+        ensures end { IfOk result (λ more. OnFalse more (IsAtEnd (R.remaining input.old)
+            × (output.new ≡ output.old) × (self.new.held ≡ self.old.held))) }
+    {
+        let held = self.held;
+        let read = match read_behind(input, &mut self.code, held, most) {
+            Ok(read) => read,
+            Err(error) => {
+                // The read failed first, so its error is the answer, even where the tail cannot be written.
+                let _ = self.write_tail(output);
+                return Err(StreamError::Input(error));
+            }
+        };
+        if read == 0 {
+            return Ok(false);
         }
-    };
-    let n = held + read;
-    if n == held {
-        return Ok(Turn {
-            held,
-            used: 0,
-            more: false,
-        });
+        let n = held + read;
+        let left = list_words(&self.code[..n], self.offset, output, &mut self.text).map_err(
+            StreamError::Output,
+        )?;
+        self.code.copy_within(n - left..n, 0);
+        self.held = left;
+        self.offset = self.offset.wrapping_add((n - left) as u64);
+        Ok(true)
     }
-    let used = list_words(&code[..n], at, output, text).map_err(StreamError::Output)?;
-    let kept = keep_rest(code, used, n);
-    Ok(Turn {
-        held: kept,
-        used,
-        more: true,
-    })
+
+    fn write_tail<W: Write>(&mut self, output: &mut W) -> io::Result<()>
+        ensures { OnOk result (Appends (W.contents output.old) (W.contents output.new)
+            (tail_of self.old.held)) }
+    {
+        let k = listing::list_tail(self.held, &mut self.text);
+        output.write_all(&self.text[..k])
+    }
 }
 
-fn write_tail<W: Write>(left: usize, output: &mut W, text: &mut [u8]) -> io::Result<()> {
-    let k = listing::list_tail(left, text);
-    output.write_all(&text[..k])
-}
-
-// Where the next read ends: `most` bytes behind those held over, but at least one and within the buffer.
-fn piece_end(held: usize, most: usize, room: usize) -> usize
-    requires { held < room }
-    ensures { (held < result) × (result ≤ room) }
-{
-    if most == 0 {
-        return held + 1;
-    }
-    if room - held < most {
-        return room;
-    }
-    held + most
-}
-
-// How many bytes were read into a part of the buffer: none at the end of the input.
-fn read_more<R: Read>(input: &mut R, code: &mut [u8], from: usize, to: usize) -> io::Result<usize>
-    requires { (from ≤ to) × (to ≤ length code.old) }
-    ensures bound { IfOk result (λ n. from + n ≤ to) }
+// Reads `most` bytes at most, but one at least, behind the bytes held over, and answers how many: none at the end of
+// the input.
+fn read_behind<R: Read>(
+    input: &mut R,
+    code: &mut [u8],
+    held: usize,
+    most: usize,
+) -> io::Result<usize>
+    requires { held < length code.old }
+    ensures bound { IfOk result (λ n. held + n ≤ length code.old) }
+    ensures most { IfOk result (λ n. 1 < n → n ≤ most) }
     ensures lengths { length code.new ≡ length code.old }
+    ensures kept { take held code.new ≡ take held code.old }
+    ensures bytes { IfOk result (λ n. Consumes (R.remaining input.old) (R.remaining input.new)
+        (take n (drop held code.new))) }
+    ensures end { IfOk result (λ n. n ≡ 0 → IsAtEnd (R.remaining input.new)) }
 {
-    input.read(&mut code[from..to])
+    let end = held + most.clamp(1, code.len() - held);
+    input.read(&mut code[held..end])
 }
 
-// Lists every whole word of the code, unless a write fails, and answers how many bytes those are.
+// Lists every whole word of the code, unless a write fails, and answers how many bytes are left over.
+#[tactic(auto, using(listing::proofs::Longest::progress))]
 fn list_words<W: Write>(code: &[u8], at: u64, output: &mut W, text: &mut [u8]) -> io::Result<usize>
     requires { 52 ≤ length text.old }
-    ensures used { IfOk result (λ used. (length code.now < used + 4) × (used ≤ length code.now)) }
+    ensures left { IfOk result (λ left. left ≡ length code.now % 4) }
+    ensures lines { OnOk result (Appends (W.contents output.old) (W.contents output.new)
+        (lines_of at code.now)) }
     ensures lengths { length text.new ≡ length text.old }
 {
-    let mut i = 0;
-    while 4 <= code.len() - i {
-        i += list_some(&code[i..], at.wrapping_add(i as u64), output, text)?;
+    let mut rest = code;
+    let mut at = at;
+    // A `while`: how much a turn lists is the listing's answer, which no `for` could step by.
+    while 4 <= rest.len() {
+        let listed = listing::list_code(rest, at, text);
+        output.write_all(&text[..listed.written])?;
+        rest = &rest[listed.used..];
+        at = at.wrapping_add(listed.used as u64);
     }
-    Ok(i)
-}
-
-// Lists as many words as the buffer has room for, at least one, and answers how many bytes those are.
-#[tactic(auto, using(listing::proofs::Longest::progress))]
-fn list_some<W: Write>(code: &[u8], at: u64, output: &mut W, text: &mut [u8]) -> io::Result<usize>
-    requires { (4 ≤ length code.now) × (52 ≤ length text.old) }
-    ensures used { IfOk result (λ used. (4 ≤ used) × (used ≤ length code.now)) }
-    ensures lengths { length text.new ≡ length text.old }
-{
-    let listed = listing::list_code(code, at, text);
-    let used = listed.used;
-    let written = listed.written;
-    output.write_all(&text[..written])?;
-    Ok(used)
-}
-
-// Moves the bytes between two places to the front, and answers how many they are.
-fn keep_rest(code: &mut [u8], from: usize, to: usize) -> usize
-    requires { (from ≤ to) × (to ≤ length code.old) }
-    ensures { (from + result ≡ to) × (take result code.new ≡ take result (drop from code.old)) }
-{
-    let n = to - from;
-    let mut j = 0;
-    while j < n {
-        code[j] = code[from + j];
-        j += 1;
-    }
-    n
+    Ok(rest.len())
 }

@@ -1,3 +1,4 @@
 -- Laws of this room.
 pub mod Elsewhere
+pub mod Looked
 pub mod Masked

@@ -19,5 +19,5 @@ pub fn is_list(words: usize) -> bool
 fn has_shape(most: usize, words: usize) -> bool
     ensures { result ≡ has_shape most words }
 {
-    (words % 3 == 0) & (words <= most)
+    words.is_multiple_of(3) && words <= most
 }

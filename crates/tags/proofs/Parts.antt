@@ -3,11 +3,13 @@ use Prim.Native.Nat.{ℕ, ◌+◌, ◌*◌, ◌-◌, ◌/◌, ◌%◌, ◌^◌, 
 use mathlib.Core.Bool.{Bool, true, false, cond, not, ◌&&◌, ◌||◌}
 use mathlib.Core.Path.{◌≡◌, refl, sym, ap, ap₂, ◌∙◌}
 use native.Mathlib.Nat.{mod-lt, div-div-eq-div-mul}
+use native.Mathlib.Decide.{ℕ_discrete}
 use native.Mathlib.Omega.{arith}
+use lib.Bits.{bit_and, and_mask}
 use lib.Dec.{eqb, ltb, leb}
-use lib.IntN.{ℤ, pos, negsuc}
+use lib.IntN.{ℤ, pos, negsuc, ◌-ℤ◌}
 use lib.Pow.{pow_mono}
-use borrow.Author.Tests.{leb-true, ltb-true, le-leb, eq-eqb, lt-ltb}
+use borrow.Author.Tests.{leb-true, ltb-true, le-leb, eq-eqb, lt-ltb, ne_eqb}
 use Rattle.laws.proofs.Truth.{and_0, and-1, not_so, clash}
 use Rattle.laws.specs.Bits.{bits}
 use Rattle.laws.specs.Mask.{bit_of}
@@ -84,6 +86,33 @@ end-some tag n = go (leb 1 (bits 27 26 tag)) (leb (span_of (entry_at 0 tag)) 54)
     go true true e = (refl, e)
     go true false e = absurd (n e)
     go false b e = absurd (n e)
+
+-- so a base is a multiple of the span exactly if it has none of the bits of the end
+abbrev rest_by : ℕ → ℕ → Bool
+rest_by base tag =
+    ltb tag (2 ^ 54)
+    && not (eqb (end_of tag) 0)
+    && eqb (bit_and base (end_of tag)) 0
+    && is_placed (bit_of tag 49) (pos 3 -ℤ pos (bits 48 46 tag)) (bit_of tag 44)
+    && is_reach base tag
+
+shut : (a b c d e : Bool) → (a && false && b && d && e) ≡ (a && false && c && d && e)
+shut true b c d e = refl
+shut false b c d e = refl
+
+by-end : (base tag : ℕ) → Dec (end_of tag ≡ 0) → is_rest base tag ≡ rest_by base tag
+unfolding is_rest entry_at
+by-end base tag (yes z) =
+    simp (eq-eqb (end_of tag) 0 z, end_none tag z)
+    (shut (ltb tag (2 ^ 54)) (eqb (base % 2 ^ span_of (entry_at 0 tag)) 0) (eqb (bit_and base (end_of tag)) 0)
+    (is_placed (bit_of tag 49) (pos 3 -ℤ pos (bits 48 46 tag)) (bit_of tag 44)) (is_reach base tag))
+by-end base tag (no n) =
+    let (some, e) = end-some tag n in
+    let under : bit_and base (end_of tag) ≡ base % 2 ^ span_of (entry_at 0 tag) = ap (bit_and base) e ∙ and_mask base (span_of (entry_at 0 tag)) in
+    simp (ne_eqb (end_of tag) 0 n, some, under)
+
+pub rest-end : (base tag : ℕ) → is_rest base tag ≡ rest_by base tag
+rest-end base tag = by-end base tag (ℕ_discrete (end_of tag) 0)
 
 -- what a slot that reads as an entry keeps
 pub entry-legal : (base tag : ℕ) → is_entry base tag ≡ true → Legal (entry_at base tag)
@@ -223,6 +252,9 @@ rest-entry base tag whole company = go (is_rest base tag) refl
     go : (b : Bool) → is_rest base tag ≡ b → b ≡ is_entry base tag
     go true e = sym company ∙ rest-company base tag whole e
     go false e = sym (rest-empty base tag e)
+
+-- what a proof of what is left to test cites
+pub ruleset rest = (rest-end)
 
 -- what a proof of a slot's tests cites
 pub ruleset parts = (span-numbers, end_none, end-some, no-layout, no_room, end_empty, rest-empty, rest-company)

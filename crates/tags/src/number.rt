@@ -8,31 +8,23 @@ use machine::{Regime, Security};
 pub fn regime_number(regime: Regime) -> u64
     ensures { (result ≡ regime_number regime) × (result < 4) }
 {
-    match regime {
-        Regime::EL10 => 0,
-        Regime::EL20 => 1,
-        Regime::EL2 => 2,
-        Regime::EL3 => 3,
-    }
+    regime as u64
 }
 
 pub fn security_number(security: Security) -> u64
     ensures { (result ≡ security_number security) × (result < 4) }
 {
-    match security {
-        Security::Secure => 0,
-        Security::NonSecure => 1,
-        Security::Realm => 2,
-        Security::Root => 3,
-    }
+    security as u64
 }
 
 pub fn flag(set: bool) -> u64
     ensures { (result ≡ flag set) × (result < 2) }
 {
-    if set { 1 } else { 0 }
+    u64::from(set)
 }
 
+// Two functions, and no generic one: a trait would hold the same two tables.
+// No TryFrom: every number has a regime and a security state, those above 3 the last, as the callers' definitions say.
 pub fn regime_at(number: u64) -> Regime
     ensures { result ≡ regime_at number }
 {

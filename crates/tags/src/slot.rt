@@ -7,20 +7,20 @@ ghost use Rattle.machine.specs.Tag.{company_at, entry_at, is_entry};
 ghost use Rattle.tags.specs.Ends.{end_of};
 ghost use Rattle.tags.specs.Rest.{is_reach, is_rest};
 
-use crate::end::{end_in, has_span, place_at};
+use crate::end::end_of;
 use crate::number::{level_at, regime_at, security_at};
 use machine::{Company, Entry};
 use spans::{bit_of, exponent_at};
+
+// Base and tag stay two numbers, as they stand in a table: half of these functions ask for the tag alone.
 
 #[tactic(auto, unfolding(machine::specs::Tag::company_at))]
 fn company_at(tag: u64) -> Company
     ensures { result ≡ company_at tag }
 {
-    let regime = regime_at(tag / 0x10 % 4);
-    let security = security_at(tag / 0x40 % 4);
     Company {
-        regime,
-        security,
+        regime: regime_at(tag / 0x10 % 4),
+        security: security_at(tag / 0x40 % 4),
         vmid: (tag / 0x100 % 65536) as u16,
         stage2: tag / 0x1000000 % 2 == 1,
         ns: tag / 0x2000000 % 2 == 1,
@@ -31,16 +31,14 @@ fn company_at(tag: u64) -> Company
 pub fn entry_at(base: u64, tag: u64) -> Entry
     ensures { result ≡ entry_at base tag }
 {
-    let company = company_at(tag);
-    let level = level_at(tag);
     Entry {
         processor: (tag / 0x8000000000000 % 8) as u8,
-        company,
+        company: company_at(tag),
         asid: (tag / 0x10000000 % 65536) as u16,
         global: tag / 0x100000000000 % 2 == 1,
         wide: tag / 0x200000000000 % 2 == 1,
         granule: (tag / 0x4000000 % 4) as u8,
-        level,
+        level: level_at(tag),
         leaf: tag / 0x2000000000000 % 2 == 1,
         xs: tag / 0x4000000000000 % 2 == 1,
         base,
@@ -56,6 +54,7 @@ pub fn span_at(tag: u64) -> u64
     exponent_at(wide, tag / 0x4000000 % 4, tag / 0x400000000000 % 8)
 }
 
+// By numbers, and not `entries::is_company`: no entry is made of a slot that is only tested.
 // Whose a slot is, by the numbers of its tag: an entry can have that company.
 #[tactic(auto, unfolding(machine::specs::Entry::is_company, machine::specs::Tag::company_at))]
 fn is_company_at(tag: u64) -> bool
@@ -63,7 +62,7 @@ fn is_company_at(tag: u64) -> bool
 {
     // "IPA space (as NS; Secure stage 2 only, else 0)", and stage 2 is EL1&0
     if tag / 0x2000000 % 2 == 1 {
-        return (tag / 0x10 % 16 == 0) & (tag / 0x1000000 % 2 == 1);
+        return tag / 0x10 % 16 == 0 && tag / 0x1000000 % 2 == 1;
     }
     // EL1&0 is never Root
     if tag / 0x10 % 4 == 0 {
@@ -76,7 +75,7 @@ fn is_company_at(tag: u64) -> bool
     // "EL3's state is Root or Secure; other regimes are never Root."
     let security = tag / 0x40 % 4;
     if tag / 0x10 % 4 == 3 {
-        (security == 3) | (security == 0)
+        security == 3 || security == 0
     } else {
         security != 3
     }
@@ -88,13 +87,13 @@ fn is_reach_at(base: u64, tag: u64) -> bool
     ensures { result ≡ is_reach base tag }
 {
     // stage 1 of EL1&0 or EL2&0, which are regimes 0 and 1
-    let two = (tag / 0x20 % 2 == 0) & (tag / 0x1000000 % 2 == 0);
+    let two = tag / 0x20 % 2 == 0 && tag / 0x1000000 % 2 == 0;
     if two {
         let top = base / 0x80000000000000;
-        (top == 0) | (top == 511)
+        matches!(top, 0 | 511)
     } else {
         // ASID and global flag, side by side, are 0
-        (tag / 0x10000000 % 0x20000 == 0) & (base < 0x100000000000000)
+        tag / 0x10000000 % 0x20000 == 0 && base < 0x100000000000000
     }
 }
 
@@ -113,41 +112,19 @@ fn is_placed_at(tag: u64) -> bool
 pub fn is_entry(base: u64, tag: u64) -> bool
     ensures { result ≡ is_entry base tag }
 {
-    if tag % 16 != 1 {
-        return false;
-    }
-    if tag / 0x40000000000000 != 0 {
-        return false;
-    }
-    let place = place_at(tag);
-    if !has_span(place) {
-        return false;
-    }
-    let end = end_in(place);
-    if !is_rest(base, tag, end) {
-        return false;
-    }
-    is_company_at(tag)
+    tag % 16 == 1 && is_rest(base, tag, end_of(tag)) && is_company_at(tag)
 }
 
 // What is left to test of a slot whose layout number and company are an entry's, as they are where its lower part is a key. The end is how far the
 // last address of its span lies from its base, which has none of its bits.
-#[tactic(auto, unfolding(crate::specs::Rest::is_rest, machine::specs::Tag::entry_at), using(crate::proofs::Parts::parts))]
+#[tactic(auto, using(crate::proofs::Parts::rest))]
 pub fn is_rest(base: u64, tag: u64, end: u64) -> bool
     requires { end ≡ end_of tag }
     ensures { result ≡ is_rest base tag }
 {
-    if 0x40000000000000 <= tag {
-        return false;
-    }
-    if end == 0 {
-        return false;
-    }
-    if base & end != 0 {
-        return false;
-    }
-    if !is_placed_at(tag) {
-        return false;
-    }
-    is_reach_at(base, tag)
+    tag < 0x40000000000000
+        && end != 0
+        && base & end == 0
+        && is_placed_at(tag)
+        && is_reach_at(base, tag)
 }

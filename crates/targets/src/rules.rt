@@ -10,7 +10,7 @@ fn are_processors(state: State, processors: u64) -> bool
     requires { state.board.count ≤ 8 }
     ensures { result ≡ are_processors state processors }
 {
-    (0 < processors) & (processors < size(state.board.count as u64))
+    0 < processors && processors < size(state.board.count as u64)
 }
 
 // First not above last, both in one legal half, or both below 2^56.
@@ -18,11 +18,11 @@ fn are_processors(state: State, processors: u64) -> bool
 fn are_addresses(company: Company, first: u64, last: u64) -> bool
     ensures { result ≡ are_addresses company first last }
 {
-    let low = in_reach(company, first);
-    let high = in_reach(company, last);
-    let two = has_asids(company);
-    let half = first / 0x80000000000000 % 512 == last / 0x80000000000000 % 512;
-    (first <= last) & low & high & (!two | half)
+    let same_half = first / 0x80000000000000 % 512 == last / 0x80000000000000 % 512;
+    first <= last
+        && in_reach(company, first)
+        && in_reach(company, last)
+        && (!has_asids(company) || same_half)
 }
 
 #[tactic(auto, unfolding(machine::specs::Target::is_target))]
@@ -31,9 +31,9 @@ pub fn is_target(state: State, target: Target) -> bool
     ensures { result ≡ is_target state target }
 {
     let company = target.company;
-    let owned = is_company(company);
-    let asids = has_asids(company);
-    let named = are_processors(state, target.processors);
-    let placed = are_addresses(company, target.first, target.last);
-    owned & ((1 <= target.granule) & (target.granule <= 3)) & (!target.one | asids) & named & placed
+    is_company(company)
+        && matches!(target.granule, 1..=3)
+        && (target.asid.is_none() || has_asids(company))
+        && are_processors(state, target.processors)
+        && are_addresses(company, target.first, target.last)
 }

@@ -73,6 +73,13 @@ decimal-myriads x h l =
     ((48 + x % 10000 / 100 / 10) ∷ (48 + x % 10000 / 100 % 10) ∷ [])
     ((48 + x % 10000 % 100 / 10) ∷ (48 + x % 10000 % 100 % 10) ∷ []))
 
+-- how many digits these are
+pub length-hundreds : (x : ℕ) → 100 ≤ x → x < 2 ^ 64 → length (decimal_of x) ≡ length (decimal_of (x / 100)) + 2
+length-hundreds x h l = omega (arith, simp length-append at (ap length (decimal-hundreds x h l)))
+
+pub length-myriads : (x : ℕ) → 10000 ≤ x → x < 2 ^ 64 → length (decimal_of x) ≡ length (decimal_of (x / 10000)) + 4
+length-myriads x h l = omega (arith, simp length-append at (ap length (decimal-myriads x h l)))
+
 few : (k x : ℕ) → length (digits k x) ≤ k
 unfolding digits
 few zero x = omega arith

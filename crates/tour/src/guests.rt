@@ -1,8 +1,7 @@
 // The guests: whose entries are theirs, the state of the processor while one of them runs, and the entries that they come with.
-use crate::say::{number, refused, text};
 use machine::{
-    Board, Company, Ds, Entry, Features, Flags, Hcr, Hcrx, Inserted, Present, Regime, Scr,
-    Security, State, Traps,
+    Board, Company, Ds, Entry, Features, Flags, Hcr, Hcrx, Present, Regime, Scr, Security, State,
+    Traps,
 };
 use std::io;
 
@@ -17,24 +16,45 @@ pub fn company(vmid: u16) -> Company {
     }
 }
 
-// Entry k of the nine that the guests come with. They share addresses, so that an entry dropped for the wrong guest shows.
-pub fn entry(k: u64) -> Entry {
-    match k {
-        0 => page(7, 5, 0x40000000),
-        1 => page(7, 6, 0x40001000),
-        2 => page(8, 5, 0x40000000),
-        3 => page(9, 5, 0x40000000),
-        4 => page(7, 5, 0x40002000),
-        5 => page(8, 6, 0x40001000),
-        6 => block(7, 2, 0x80000000),
-        7 => block(8, 2, 0x80000000),
-        _ => block(9, 1, 0xC0000000),
+// An entry that a guest comes with, and what a lookup of it has to give.
+#[derive(Clone, Copy)]
+pub struct Held {
+    pub entry: Entry,
+    out: u64,
+}
+
+impl Held {
+    fn new(entry: Entry, out: u64) -> Held {
+        Held { entry, out }
+    }
+
+    pub fn is_of(&self, vmid: u16) -> bool {
+        self.entry.company.vmid == vmid
+    }
+
+    // Whether its guest finds it, and not another one, at its address.
+    pub fn is_found(&self, table: &[u64]) -> bool {
+        let own = self.entry;
+        let state = state(own.company.vmid);
+        calls::look_up(table, state, Regime::EL10, own.asid, own.base).is_ok_and(|found| found.out
+            == self.out)
     }
 }
 
-// What a lookup of entry k has to give: no two are the same, so that nobody's word passes for another's.
-pub fn output(k: u64) -> u64 {
-    0x100000000 + k % 9 * 0x40000000
+// The entries share addresses, so that one dropped for the wrong guest shows. No two give the same, so that nobody's word
+// passes for another's.
+pub fn entries() -> [Held; 9] {
+    [
+        Held::new(page(7, 5, 0x40000000), 0x100000000),
+        Held::new(page(7, 6, 0x40001000), 0x140000000),
+        Held::new(page(8, 5, 0x40000000), 0x180000000),
+        Held::new(page(9, 5, 0x40000000), 0x1C0000000),
+        Held::new(page(7, 5, 0x40002000), 0x200000000),
+        Held::new(page(8, 6, 0x40001000), 0x240000000),
+        Held::new(block(7, 2, 0x80000000), 0x280000000),
+        Held::new(block(8, 2, 0x80000000), 0x2C0000000),
+        Held::new(block(9, 1, 0xC0000000), 0x300000000),
+    ]
 }
 
 fn page(vmid: u16, asid: u16, base: u64) -> Entry {
@@ -55,41 +75,19 @@ fn page(vmid: u16, asid: u16, base: u64) -> Entry {
 // A block that every ASID of the guest finds.
 fn block(vmid: u16, level: i8, base: u64) -> Entry {
     Entry {
-        processor: 0,
-        company: company(vmid),
-        asid: 0,
         global: true,
-        wide: false,
-        granule: 1,
         level,
-        leaf: true,
-        xs: true,
-        base,
+        ..page(vmid, 0, base)
     }
 }
 
-pub fn fill(rt: &impl Print, table: &mut [u64; 48]) -> io::Result<()> {
-    for k in 0..9u64 {
-        put(rt, table, k)?;
+pub fn fill(rt: &impl Print, table: &mut [u64]) -> io::Result<()> {
+    for (k, own) in entries().iter().enumerate() {
+        if let Err(refusal) = calls::insert(table, own.entry, own.out) {
+            println!(rt; "entry {k} refused, answer {}", refusal.number())?;
+        }
     }
     Ok(())
-}
-
-fn put(rt: &impl Print, table: &mut [u64; 48], k: u64) -> io::Result<()> {
-    let inserted = calls::insert(table, entry(k), output(k));
-    match inserted {
-        Inserted::At(_) => Ok(()),
-        Inserted::BadShape => left_out(rt, k, 13),
-        Inserted::Illegal => left_out(rt, k, 8),
-        Inserted::Full => left_out(rt, k, 9),
-    }
-}
-
-fn left_out(rt: &impl Print, k: u64, answer: u64) -> io::Result<()> {
-    number(rt, b"entry ", k)?;
-    text(rt, b" ")?;
-    refused(rt, answer)?;
-    text(rt, b"\n")
 }
 
 // The guest runs at EL1 under a host at EL2, on a board of one processor.

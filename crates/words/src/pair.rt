@@ -8,5 +8,5 @@ use machine::Operation;
 pub fn is_odd_pair(op: Operation) -> bool
     ensures { result ≡ is_odd_pair op }
 {
-    op.tlbip & (op.rt % 2 == 1) & (op.rt < 31)
+    op.tlbip && op.rt % 2 == 1 && op.rt < 31
 }

@@ -5,7 +5,7 @@ ghost use Rattle.words.specs.Crm.{has_crm};
 
 use crate::numbers::{name_bits, share_bits};
 use crate::row_of;
-use machine::{Built, Decoded, Operation, Row};
+use machine::Operation;
 
 #[derive(Clone, Copy)]
 pub struct OperationWord {
@@ -23,7 +23,7 @@ impl OperationWord {
     {
         let fixed = word / 524288 * 524288;
         let crn = word / 4096 % 16;
-        ((fixed == OperationWord::SYS) | (fixed == OperationWord::SYSP)) & ((crn == 8) | (crn == 9))
+        matches!(fixed, OperationWord::SYS | OperationWord::SYSP) && matches!(crn, 8 | 9)
     }
 
     // Whether CRm is one that some operation has: few of the system instructions next to them do.
@@ -31,60 +31,44 @@ impl OperationWord {
     pub fn has_crm(word: u64) -> bool
         ensures { result ≡ has_crm (crm_in word) }
     {
-        match word / 256 % 16 {
-            0 => true,
-            2 => true,
-            4 => true,
-            5 => true,
-            6 => true,
-            _ => false,
-        }
+        matches!(word / 256 % 16, 0 | 2 | 4 | 5 | 6)
     }
 
     // Any number gets an answer: 2^32 or more has other fixed bits.
     #[tactic(auto, unfolding(machine::specs::Word::read_of))]
-    pub fn read(self) -> Decoded
+    pub fn read(self) -> Option<Operation>
         ensures { result ≡ read_of self.bits }
     {
         let word = self.bits;
-        let tlbip = word / 524288 * 524288 == OperationWord::SYSP;
-        let nxs = word / 4096 % 16 == 9;
-        if OperationWord::is_fixed(word) {
-            let row = row_of(
-                (word / 65536 % 8) as u8,
-                (word / 256 % 16) as u8,
-                (word / 32 % 8) as u8,
-            );
-            match row {
-                Row::Named(name, share) => Decoded::Known(Operation {
-                    name,
-                    share,
-                    nxs,
-                    tlbip,
-                    rt: (word % 32) as u8,
-                }),
-                Row::Unnamed => Decoded::Unknown,
-            }
-        } else {
-            Decoded::Unknown
+        if !OperationWord::is_fixed(word) {
+            return None;
         }
+        let op1 = (word / 65536 % 8) as u8;
+        let crm = (word / 256 % 16) as u8;
+        let op2 = (word / 32 % 8) as u8;
+        let (name, share) = row_of(op1, crm, op2)?;
+        Some(Operation {
+            tlbip: word / 524288 * 524288 == OperationWord::SYSP,
+            nxs: word / 4096 % 16 == 9,
+            share,
+            name,
+            rt: (word % 32) as u8,
+        })
     }
 
     // Any parts get an answer: an Rt of 32 or more has no place in a word.
     #[tactic(auto, unfolding(machine::specs::Word::built_of, machine::specs::Word::word_of))]
-    pub fn build(op: Operation) -> Built
+    pub fn build(op: Operation) -> Option<u64>
         ensures { result ≡ built_of op }
     {
         if op.rt < 32 {
-            let name = op.name;
-            let share = op.share;
-            let named = name_bits(name);
-            let crn = crn_of(op.nxs) as u64;
-            let shared = share_bits(name, share);
+            let named = name_bits(op.name);
+            let shared = share_bits(op.name, op.share);
+            let crn = crn_of(op.nxs);
             let rt = op.rt as u64;
-            Built::Word(OperationWord::SYS + sysp_bit(op.tlbip) + named + crn * 4096 + shared + rt)
+            Some(OperationWord::SYS + sysp_bit(op.tlbip) + named + crn * 4096 + shared + rt)
         } else {
-            Built::Unfit
+            None
         }
     }
 }
@@ -101,7 +85,7 @@ fn sysp_bit(tlbip: bool) -> u64
     }
 }
 
-fn crn_of(nxs: bool) -> u8
+fn crn_of(nxs: bool) -> u64
     ensures { result ≡ cond nxs 9 8 }
 {
     if nxs { 9 } else { 8 }

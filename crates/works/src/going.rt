@@ -6,6 +6,7 @@ ghost use Rattle.machine.specs.Goes.{is_reached, is_owned, is_granule_of, is_met
 use machine::{Entry, Work};
 use spans::bit_of;
 
+// Work and entry stay two parameters: each rule holds the one against the other.
 fn is_reached(work: Work, entry: Entry) -> bool
     requires { entry.processor ≤ 7 }
     ensures { result ≡ is_reached work entry }
@@ -16,23 +17,27 @@ fn is_reached(work: Work, entry: Entry) -> bool
 fn is_width_of(work: Work, entry: Entry) -> bool
     ensures { result ≡ is_width_of work entry }
 {
-    if work.wide { entry.wide } else { !entry.wide }
+    entry.wide == work.wide
 }
 
 fn is_at_hint(work: Work, entry: Entry) -> bool
     ensures { result ≡ is_at_hint work entry }
 {
-    if entry.leaf {
-        (entry.level <= work.level) & (work.level <= entry.level)
-    } else {
-        entry.level < work.level
+    match work.level {
+        Some(level) if entry.leaf => entry.level == level,
+        Some(level) => entry.level < level,
+        None => true,
     }
 }
 
 fn is_asid_of(work: Work, entry: Entry) -> bool
     ensures { result ≡ is_asid_of work entry }
 {
-    !work.one | (entry.asid as u64 == work.asid) | (entry.leaf & entry.global)
+    let agrees = match work.asid {
+        Some(asid) => entry.asid as u64 == asid,
+        None => true,
+    };
+    agrees | (entry.leaf & entry.global)
 }
 
 // Whether an entry goes that is of the operation's company and granule and that its range meets: a caller has looked at these first, since they
@@ -41,14 +46,12 @@ pub fn goes(work: Work, entry: Entry) -> bool
     requires { (is_legal entry ≡ true) × (is_owned work entry ≡ true) × (is_granule_of work entry ≡ true) × (is_met work entry ≡ true) }
     ensures { result ≡ goes work entry }
 {
-    let reached = is_reached(work, entry);
+    let hinted = work.level.is_some();
     let width = is_width_of(work, entry);
-    let at_hint = is_at_hint(work, entry);
-    let agrees = is_asid_of(work, entry);
-    reached
-        & (!work.hinted | (width & at_hint))
-        & (width | (!work.hinted & work.d128))
+    is_reached(work, entry)
+        & (!hinted | (width & is_at_hint(work, entry)))
+        & (width | (!hinted & work.d128))
         & (!work.leaves | entry.leaf)
-        & agrees
+        & is_asid_of(work, entry)
         & (!work.nxs | !entry.xs)
 }

@@ -1,54 +1,32 @@
 // What is known of a word's scope from an earlier step: a list often has one word in many steps, and a state makes the same of it each time.
 ghost use Rattle.std.specs.Prelude.{◌≡◌};
-ghost use Rattle.works.specs.Held.{nothing_held, held_in};
+ghost use Rattle.works.specs.Held.{scope_in, held_in};
 
-use machine::{Regime, Scope, Security, Work};
+use machine::{Scope, Work};
 
-// `known` says that the scope is that of the word.
-#[derive(Clone, Copy)]
-pub struct Held {
-    pub known: bool,
-    pub scope: Scope,
-}
-
-pub fn nothing_held() -> Held
-    ensures { result ≡ nothing_held }
+// A work of granule 0 tells nothing: the pages name this function, and `comes-holds` speaks of such works.
+// What the work of an earlier step tells, if it came of the same word.
+pub fn held_in(same: bool, work: Work) -> Option<Scope>
+    ensures { result ≡ held_in same work }
 {
-    let scope = Scope {
-        regime: Regime::EL10,
-        security: Security::Secure,
-        vmid: 0,
-        stage2: false,
-        reached: 0,
-        asid: false,
-        last: false,
-        nxs: false,
-    };
-    Held {
-        known: false,
-        scope,
+    if same && work.granule != 0 {
+        Some(scope_in(work))
+    } else {
+        None
     }
 }
 
-// What a work tells, if it came of the same word.
-pub fn held_in(same: bool, work: Work) -> Held
-    ensures { result ≡ held_in same work }
+fn scope_in(work: Work) -> Scope
+    ensures { result ≡ scope_in work }
 {
-    let company = work.company;
-    let regime = company.regime;
-    let security = company.security;
-    let scope = Scope {
-        regime,
-        security,
-        vmid: company.vmid,
-        stage2: company.stage2,
+    Scope {
+        regime: work.company.regime,
+        security: work.company.security,
+        vmid: work.company.vmid,
+        stage2: work.company.stage2,
         reached: work.reached,
-        asid: work.one,
+        asid: work.asid.is_some(),
         last: work.leaves,
         nxs: work.nxs,
-    };
-    Held {
-        known: same & (work.granule != 0),
-        scope,
     }
 }

@@ -6,5 +6,5 @@ mod held;
 mod resolution;
 
 pub use going::goes;
-pub use held::{Held, held_in, nothing_held};
+pub use held::held_in;
 pub use resolution::resolve;

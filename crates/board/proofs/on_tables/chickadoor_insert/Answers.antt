@@ -1,9 +1,9 @@
-use Rattle.std.proofs.Common.{◌≡◌, ℕ, Bool, true, false, List, refl, sym, ◌∙◌}
+use Rattle.std.proofs.Common.{◌≡◌, ℕ, Bool, true, false, List, Err, refl, sym, ◌∙◌}
 use Rattle.machine.proofs.Inserting.{insert-13, insert-8}
 use Rattle.machine.specs.Entry.{is_legal}
 use Rattle.machine.specs.Table.{is_table, insert_table}
 use Rattle.machine.specs.declared.entry.Entry.{Entry}
-use Rattle.received.proofs.Unfit.{entry-unfit}
+use Rattle.received.proofs.Unfit.{entry-unfit, refused}
 use Rattle.received.specs.Entries.{entry_in}
 use Rattle.board.proofs.on_tables.chickadoor_insert.Goals as goal
 
@@ -15,14 +15,13 @@ kept e out l h = go (is_table l) refl
     go true t = sym (insert-8 e out l t h).1
     go false t = sym (insert-13 e out l t).1
 
-pub returns-then-not-entry_fits : goal.returns-then-not-entry_fits
-returns-then-not-entry_fits c =
+pub returns-in_default : goal.returns-in_default
+returns-in_default c =
     let e = entry_in c.args.entry in
-    let unfit = entry-unfit c.args.entry (sym c.entry_fits.ensures ∙ c.if-not-entry_fits.true) in
-    let call = c.refuse_entry-refused in
+    let unfit = entry-unfit c.args.entry (refused _ _ _ (sym c.try_from.ensures ∙ c.in_default.is)) in
     record {
-      answer = call.result;
-      kept = (call.ensures e unfit, kept e c.args.output c.args.table.now unfit);
-      numbered = c.inserted_number.ensures;
-      told = c.inserted_words.ensures;
+      answer = Err c.refuse_entry.result;
+      kept = (c.refuse_entry.ensures e unfit, kept e c.args.output c.args.table.now unfit);
+      numbered = c.from.ensures ∙ c.number.ensures;
+      told = refl;
     }

@@ -19,9 +19,6 @@ returns-then-is_bad c =
     let r = execute-2 a.state a.word a.xt a.xt2 a.table.now (sym c.is_table.ensures ∙ c.if-not-is_table.false) (sym c.is_bad.ensures ∙ c.if-is_bad.true) in
     record { value = sym r.0; table_after = sym r.1 }
 
-pub resolve-resolved-requires : goal.resolve-resolved-requires
-resolve-resolved-requires c = nothing-holds c.args.state c.read-read.result c.nothing_held-held.result c.nothing_held-held.ensures
-
 pub carry_out-requires : goal.carry_out-requires
 carry_out-requires c =
     let a = c.args in

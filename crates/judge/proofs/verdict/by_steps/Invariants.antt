@@ -1,13 +1,8 @@
-use Rattle.std.proofs.Common.{◌≡◌, ◌≤◌, ◌/◌, length}
-use Rattle.steps.proofs.Holding.{ComesOf}
+use Rattle.std.proofs.Common.{◌≡◌, length}
+use Rattle.machine.specs.Word.{read_of}
 use Rattle.steps.proofs.Loops.{step_work, Each, Checking}
 use Rattle.judge.proofs.verdict.by_steps.Given as goal
 
 abbrev pub invariant-loop-i : goal.invariant-loop-i
 invariant-loop-i l =
-    (l.n ≡ length l.list / 3)
-    × (l.n ≤ 16)
-    × (length l.works ≡ 16)
-    × Each l.state l.list l.works l.i
-    × Checking l.company (step_work l.state l.list) l.n l.i l.checked
-    × ComesOf l.state l.word l.work
+    (l.read ≡ read_of l.word) × (length l.works ≡ 16) × Each l.state l.list l.works l.i × Checking l.target.company (step_work l.state l.list) l.i l.checked

@@ -1,8 +1,9 @@
-use Rattle.std.proofs.Common.{◌≡◌, ℕ, ◌+◌, ◌/◌, false, sym, ◌∙◌, get_or}
+use Rattle.std.proofs.Common.{◌≡◌, ℕ, ◌+◌, ◌/◌, false, sym, ◌∙◌, get_or, arith}
 use Rattle.machine.specs.Table.{matches}
 use Rattle.machine.specs.Tag.{company_at}
 use Rattle.laws.proofs.Passing.{seek-passed}
-use Rattle.laws.proofs.Slots.{seek-next, seek-here}
+use Rattle.laws.proofs.Slots.{seek-next, seek-here, seek-end}
+use Rattle.tables.proofs.Looked.{first-there, first-none}
 use Rattle.tables.proofs.Elsewhere.{match-key, match-elsewhere}
 use Rattle.tables.proofs.Masked.{masked, wanted, wanted-key}
 use Rattle.tables.proofs.lookup.first_match.Goals as goal
@@ -18,7 +19,9 @@ returns-then-is_match c =
     let out = get_or t (c.loop-i.i + 2) 0 in
     let key = wanted-key a.key a.own tag p.2 c.if-table-i.true in
     let same = match-key a.key a.own a.asid a.address base tag out p.1 p.2 key in
-    seek-here (matches (company_at a.key) a.own a.asid a.address) t c.loop-i.i (c.loop-i.i / 3) c.loop-i-test.true c.loop-i.invariant (sym same ∙ sym c.is_match.ensures ∙ c.if-is_match.true)
+    let test = matches (company_at a.key) a.own a.asid a.address in
+    let first = seek-here test t c.loop-i.i (c.loop-i.i / 3) c.loop-i-test.true c.loop-i.invariant (sym same ∙ sym c.is_match.ensures ∙ c.if-is_match.true) in
+    first-there test t (c.loop-i.i / 3) first (omega (arith, c.loop-i-test.true, c.loop-i.invariant.0, c.loop-i.invariant.2))
 
 pub loop-i-preserved : goal.loop-i-preserved
 loop-i-preserved c =
@@ -36,3 +39,11 @@ loop-i-preserved c =
           (sym (match-key a.key a.own a.asid a.address base tag out p.1 p.2 (wanted-key a.key a.own tag p.2 w.if-table-i.true)) ∙ sym w.is_match.ensures ∙ w.if-is_match.false))
       | else-table-i w ↦ rw w.i-is (seek-passed test 0xFFFA000003FFFFFF (wanted a.key a.own) other t c.loop-i.i w.past_others-i.result w.if-table-i.false w.past_others-i.ensures c.loop-i.invariant)
     ]
+
+pub returns : goal.returns
+returns c =
+    let a = c.args in
+    let test = matches (company_at a.key) a.own a.asid a.address in
+    let t = a.table.now in
+    let first = seek-end test t c.loop-i.i (c.loop-i.i / 3) c.loop-i-test.false c.loop-i.invariant in
+    first-none test t (omega (arith, first, c.loop-i-test.false))

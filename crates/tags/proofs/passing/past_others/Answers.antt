@@ -1,20 +1,15 @@
-use Rattle.std.proofs.Common.{arith}
-use Rattle.laws.proofs.Passing.{pass-five, pass-six, pass-seven, pass-eight}
+use Rattle.std.proofs.Common.{◌+◌, ◌-◌, length, drop, ap, ◌∙◌, arith, length-drop}
+use Rattle.std.proofs.lemmas.List.{take_all}
+use Rattle.std.specs.List.{position_or_len}
+use Rattle.laws.proofs.Chunked.{passed-to}
+use Rattle.laws.specs.Chunks.{chunks, on_slot, has_key}
 use Rattle.tags.proofs.passing.past_others.Goals as goal
 
-pub returns-then-table-i-6 : goal.returns-then-table-i-6
-returns-then-table-i-6 c =
+pub returns : goal.returns
+returns c =
     let a = c.args in
-    pass-five a.mask a.key a.table.now a.from c.loop-i.i c.loop-i.invariant (omega (arith, c.loop-i-test.true)) c.if-table-i.false c.if-table-i-2.false c.if-table-i-3.false c.if-table-i-4.false c.if-table-i-5.false
-
-pub returns-then-table-i-7 : goal.returns-then-table-i-7
-returns-then-table-i-7 c =
-    let a = c.args in pass-six a.mask a.key a.table.now a.from c.loop-i.i c.loop-i.invariant (omega (arith, c.loop-i-test.true)) c.if-table-i.false c.if-table-i-2.false c.if-table-i-3.false c.if-table-i-4.false c.if-table-i-5.false c.if-table-i-6.false
-
-pub returns-then-table-i-8 : goal.returns-then-table-i-8
-returns-then-table-i-8 c =
-    let a = c.args in pass-seven a.mask a.key a.table.now a.from c.loop-i.i c.loop-i.invariant (omega (arith, c.loop-i-test.true)) c.if-table-i.false c.if-table-i-2.false c.if-table-i-3.false c.if-table-i-4.false c.if-table-i-5.false c.if-table-i-6.false c.if-table-i-7.false
-
-pub loop-i-preserved : goal.loop-i-preserved
-loop-i-preserved c =
-    let a = c.args in pass-eight a.mask a.key a.table.now a.from c.loop-i.i c.loop-i.invariant (omega (arith, c.loop-i-test.true)) c.if-table-i.false c.if-table-i-2.false c.if-table-i-3.false c.if-table-i-4.false c.if-table-i-5.false c.if-table-i-6.false c.if-table-i-7.false c.if-table-i-8.false
+    let p = c.requires in
+    let t = a.table.now in
+    let all = take_all (length t - (a.from + 3)) (drop (a.from + 3) t) (omega (arith, length-drop (a.from + 3) t)) in
+    let e = c.passed.ensures.value ∙ ap (position_or_len (on_slot (has_key a.mask a.key))) (c.as_chunks.ensures.front ∙ ap chunks all) in
+    rw e (passed-to a.mask a.key t a.from p.0 p.1 p.2)

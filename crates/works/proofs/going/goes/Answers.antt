@@ -1,10 +1,10 @@
+use Rattle.std.proofs.Common.{rules}
 use Rattle.machine.proofs.Going.{goes-rest}
 use Rattle.machine.proofs.Tags.{legal}
 use Rattle.works.proofs.going.goes.Goals as goal
 
-pub is_reached-reached-requires : goal.is_reached-reached-requires
-is_reached-reached-requires c = (legal c.args.entry c.requires.0).processor
+pub is_reached-requires : goal.is_reached-requires
+is_reached-requires c = (legal c.args.entry c.requires.0).processor
 
 pub returns : goal.returns
-returns c =
-    rw (goes-rest c.args.work c.args.entry c.requires.1 c.requires.2 c.requires.3) (simp (c.is_asid_of-agrees.ensures, c.is_at_hint-at_hint.ensures, c.is_width_of-width.ensures, c.is_reached-reached.ensures))
+returns c = rw (goes-rest c.args.work c.args.entry c.requires.1 c.requires.2 c.requires.3) (search rules)

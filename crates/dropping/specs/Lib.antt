@@ -1,2 +1,0 @@
--- What the contracts of this room cite.
-pub mod Ends

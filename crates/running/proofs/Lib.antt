@@ -1,0 +1,2 @@
+-- Laws of this room.
+pub mod Told

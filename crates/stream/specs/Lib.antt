@@ -1,0 +1,2 @@
+-- What the contracts of this room cite.
+pub mod Whole
