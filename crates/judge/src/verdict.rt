@@ -36,7 +36,8 @@ fn by_steps(state: State, target: Target, list: &[u64]) -> Result<(), Objection>
 {
     let (steps, _) = list.as_chunks::<3>();
     // No heap: an array has a value in every place, also where no step is yet.
-    let mut works = [no_work(); 16];
+    let blank = no_work();
+    let mut works = [blank; 16];
     let mut checked = unchecked();
     // Word 0 is no operation.
     let mut word = 0;
@@ -50,11 +51,13 @@ fn by_steps(state: State, target: Target, list: &[u64]) -> Result<(), Objection>
         } else {
             None
         };
-        let Ok(work) = resolve(&state, read, held, step[1], step[2]) else {
-            return Err(Objection::Refused(i));
-        };
+        // A step that is refused has no work, by which `with_step` tells it.
+        let work = resolve(&state, read, held, step[1], step[2]).unwrap_or(blank);
         works[i] = work;
         checked = with_step(checked, target.company, i, work);
+    }
+    if let Some(i) = checked.refused {
+        return Err(Objection::Refused(i));
     }
     if let Some(i) = checked.outside {
         return Err(Objection::Outside(i));

@@ -1,10 +1,10 @@
 use Rattle.std.proofs.Common.{ℕ, ◌+◌, ◌-◌, ◌<◌, Some, None, refl, sym, ap, subst, ◌∙◌, arith, length-set}
-use Rattle.judge.proofs.Deciding.{refused-verdict}
-use Rattle.judge.proofs.Rounds.{word-zero, step-resolved, comes-before, ends-outside, ends-searches, ends-searched}
+use Rattle.std.specs.Result.{result_unwrap_or}
+use Rattle.judge.proofs.Rounds.{word-zero, step-resolved, taken-work, taken-more, has_work, each-done, comes-before, ends-refused, ends-outside, ends-searches, ends-searched}
 use Rattle.machine.proofs.Running.{list-shape}
 use Rattle.steps.proofs.Holding.{comes-holds}
-use Rattle.steps.proofs.Loops.{step_work, each_more, Checking, checking-start, checking-more}
-use Rattle.steps.specs.Steps.{work_in, work_at}
+use Rattle.steps.proofs.Loops.{FirstBelow, step_work, Checking, checking-start, checking-more}
+use Rattle.steps.specs.Steps.{work_at}
 use Rattle.works.proofs.Reading.{nothing-holds}
 use Rattle.works.specs.Held.{Holds}
 use Rattle.judge.proofs.verdict.by_steps.Goals as goal
@@ -30,13 +30,6 @@ resolve-requires c =
       | else-i-gt0 w ↦ subst (Holds st c.read_after-read.result) (sym w.held-is) (nothing-holds st c.read_after-read.result)
     ]
 
-pub returns-in_default : goal.returns-in_default
-returns-in_default c =
-    let st = c.args.state in
-    let l = c.loop-i in
-    let resolved = step-resolved st c.args.list.now _ l.i _ _ c.as_chunks.ensures.front (omega arith) c.read_after-read.ensures c.resolve.ensures in
-    refused-verdict st c.args.target c.args.list.now l.works l.i c.in_default.field-0 c.requires l.invariant.2 (omega arith) (resolved ∙ c.in_default.is)
-
 pub loop-i-preserved : goal.loop-i-preserved
 loop-i-preserved c =
     let st = c.args.state in
@@ -45,33 +38,44 @@ loop-i-preserved c =
     let company = c.args.target.company in
     let w = step_work st steps in
     let shape = list-shape steps c.requires.list in
-    let resolved = step-resolved st steps _ l.i _ _ c.as_chunks.ensures.front (omega arith) c.read_after-read.ensures c.resolve.ensures ∙ c.in-Ok.is in (
+    let resolved = step-resolved st steps _ l.i _ _ c.as_chunks.ensures.front (omega arith) c.read_after-read.ensures c.resolve.ensures in
+    let taken = taken-work st steps l.i _ _ resolved (c.unwrap_or-work.ensures ∙ ap (result_unwrap_or c.resolve.result) c.no_work-blank.ensures) in (
       c.read_after-read.ensures,
       simp length-set l.invariant.1,
-      each_more st steps l.works l.i c.in-Ok.work (omega (arith, l.invariant.1, shape)) resolved l.invariant.2,
-      subst (Checking company w (l.i + 1)) (sym c.with_step-checked.ensures) (checking-more company w l.i c.in-Ok.work l.checked (sym (ap work_in resolved)) l.invariant.3),
+      taken-more st steps l.works l.i c.unwrap_or-work.result (omega (arith, l.invariant.1, shape)) taken l.invariant.2,
+      subst (Checking company w (l.i + 1)) (sym c.with_step-checked.ensures) (checking-more company w l.i c.unwrap_or-work.result l.checked taken l.invariant.3),
     )
 
 pub returns-in-Some : goal.returns-in-Some
 returns-in-Some c =
     let a = c.args in
     let l = c.loop-i in
+    ends-refused a.state a.target a.list.now l.works l.i c.in-Some.i c.requires l.invariant.2 (omega (arith, c.as_chunks.ensures.front_len))
+    (subst (FirstBelow (has_work a.state a.list.now) l.i) c.in-Some.is l.invariant.3.refused)
+
+pub returns-in-Some-outside : goal.returns-in-Some-outside
+returns-in-Some-outside c =
+    let a = c.args in
+    let l = c.loop-i in
     let end = c.loop-i-test.false in
-    ends-outside a.state a.target a.list.now c.requires l.works l.invariant.1 l.checked l.i _ (omega arith) c.as_chunks.ensures.front_len l.invariant.2 l.invariant.3 c.in-Some.i c.in-Some.is
+    let each = each-done a.state a.list.now l.works l.i l.checked.refused l.invariant.2 l.invariant.3.refused c.in_default.is in
+    ends-outside a.state a.target a.list.now c.requires l.works l.invariant.1 l.checked l.i _ (omega arith) c.as_chunks.ensures.front_len each l.invariant.3 c.in-Some-outside.i c.in-Some-outside.is
 
 pub search-requires : goal.search-requires
 search-requires c =
     let a = c.args in
     let l = c.loop-i in
     let end = c.loop-i-test.false in
-    ends-searches a.state a.target a.list.now c.requires l.works l.invariant.1 l.checked l.i _ (omega arith) c.as_chunks.ensures.front_len l.invariant.2 l.invariant.3 c.in_default-outside.is (omega arith) (omega arith) (omega arith) _ _ (omega arith) c.named_asid-asid.ensures c.searched_of-processors.ensures
+    let each = each-done a.state a.list.now l.works l.i l.checked.refused l.invariant.2 l.invariant.3.refused c.in_default.is in
+    ends-searches a.state a.target a.list.now c.requires l.works l.invariant.1 l.checked l.i _ (omega arith) c.as_chunks.ensures.front_len each l.invariant.3 c.in_default-outside.is (omega arith) (omega arith) (omega arith) _ _ (omega arith) c.named_asid-asid.ensures c.searched_of-processors.ensures
 
 pub returns-in-Some-search : goal.returns-in-Some-search
 returns-in-Some-search c =
     let a = c.args in
     let l = c.loop-i in
     let end = c.loop-i-test.false in
-    ends-searched a.state a.target a.list.now c.requires l.works l.invariant.1 l.checked l.i _ (omega arith) c.as_chunks.ensures.front_len l.invariant.2 l.invariant.3 c.in_default-outside.is (omega arith) (omega arith) (omega arith) _ _ (omega arith) c.named_asid-asid.ensures c.searched_of-processors.ensures
+    let each = each-done a.state a.list.now l.works l.i l.checked.refused l.invariant.2 l.invariant.3.refused c.in_default.is in
+    ends-searched a.state a.target a.list.now c.requires l.works l.invariant.1 l.checked l.i _ (omega arith) c.as_chunks.ensures.front_len each l.invariant.3 c.in_default-outside.is (omega arith) (omega arith) (omega arith) _ _ (omega arith) c.named_asid-asid.ensures c.searched_of-processors.ensures
     _ (Some c.in-Some-search.entry) c.search.ensures c.in-Some-search.is
 
 pub returns-in-None : goal.returns-in-None
@@ -79,5 +83,6 @@ returns-in-None c =
     let a = c.args in
     let l = c.loop-i in
     let end = c.loop-i-test.false in
-    ends-searched a.state a.target a.list.now c.requires l.works l.invariant.1 l.checked l.i _ (omega arith) c.as_chunks.ensures.front_len l.invariant.2 l.invariant.3 c.in_default-outside.is (omega arith) (omega arith) (omega arith) _ _ (omega arith) c.named_asid-asid.ensures c.searched_of-processors.ensures
+    let each = each-done a.state a.list.now l.works l.i l.checked.refused l.invariant.2 l.invariant.3.refused c.in_default.is in
+    ends-searched a.state a.target a.list.now c.requires l.works l.invariant.1 l.checked l.i _ (omega arith) c.as_chunks.ensures.front_len each l.invariant.3 c.in_default-outside.is (omega arith) (omega arith) (omega arith) _ _ (omega arith) c.named_asid-asid.ensures c.searched_of-processors.ensures
     _ None c.search.ensures c.in-None.is
