@@ -1,6 +1,6 @@
 // Entries that a given work takes away, and the same with one field changed.
 use crate::exponents::{exponent, height_with_span};
-use crate::numbers::{height_of, level_at, regime_at, security_at};
+use crate::numbers::{height_of, level_at, regime_at, regime_number, security_at, security_number};
 use crate::seeds::{below, down, draw, flip, number16, once_in, power, small};
 use machine::{Company, Entry, Regime, Work};
 
@@ -84,8 +84,10 @@ pub fn missed(entry: Entry, work: Work, seed: u64) -> Entry {
     let mut next = entry;
     match which {
         0 => next.processor = small(seed, 1, 8),
-        1 | 2 => next.company.regime = regime_at((company.regime as u64 + turn) % 4),
-        3 => next.company.security = security_at((company.security as u64 + turn) % 4),
+        1 | 2 => next.company.regime = regime_at((regime_number(company.regime) as u64 + turn) % 4),
+        3 => next.company.security = security_at(
+            (security_number(company.security) as u64 + turn) % 4,
+        ),
         4 => next.company.vmid = company.vmid.wrapping_add(1),
         5 => next.company.stage2 = !company.stage2,
         6 => next.company.ns = !company.ns,

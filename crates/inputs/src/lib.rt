@@ -19,7 +19,7 @@ mod works_made;
 pub use filling::{fill, fill_taken, words_of};
 pub use legal::{broken, legal_address, legal_entry};
 pub use lists::{plan_of, put_list, step_at};
-pub use numbers::{form_at, name_at, regime_at, share_at};
+pub use numbers::{form_at, name_at, regime_at, regime_number, security_number, share_at};
 pub use operations::{damaged, given, operation_for, word_of};
 pub use seeds::{below, draw, flip, number16, once_in, power, small};
 pub use slots::{SlotWords, senseless, slot_of};

@@ -1,4 +1,4 @@
-// Enums and levels by number.
+// Enums and levels by number, and back.
 use machine::{Form, Name, Regime, Security, Share};
 
 const NAMES: [Name; 10] = [
@@ -46,8 +46,26 @@ pub fn regime_at(n: u64) -> Regime {
     REGIMES[n.min(3) as usize]
 }
 
+pub fn regime_number(regime: Regime) -> u8 {
+    match regime {
+        Regime::EL10 => 0,
+        Regime::EL20 => 1,
+        Regime::EL2 => 2,
+        Regime::EL3 => 3,
+    }
+}
+
 pub fn security_at(n: u64) -> Security {
     SECURITIES[n.min(3) as usize]
+}
+
+pub fn security_number(security: Security) -> u8 {
+    match security {
+        Security::Secure => 0,
+        Security::NonSecure => 1,
+        Security::Realm => 2,
+        Security::Root => 3,
+    }
 }
 
 pub fn form_at(n: u64) -> Form {

@@ -1,7 +1,7 @@
 // Slots as words: an entry's, laid out as docs/TAG.md says whether it is legal or not, and senseless ones.
 use crate::going::{going, missed};
 use crate::legal::{broken, legal_entry};
-use crate::numbers::height_of;
+use crate::numbers::{height_of, regime_number, security_number};
 use crate::seeds::{below, draw, flip, power};
 use machine::{Company, Entry, Work};
 
@@ -25,8 +25,8 @@ impl SlotWords {
 }
 
 fn company_bits(company: Company) -> u64 {
-    1 | (company.regime as u64) << 4
-        | (company.security as u64) << 6
+    1 | (regime_number(company.regime) as u64) << 4
+        | (security_number(company.security) as u64) << 6
         | (company.vmid as u64) << 8
         | (company.stage2 as u64) << 24
         | (company.ns as u64) << 25
