@@ -1,7 +1,8 @@
 // The state's check, the access rules, and what follows from the state for a regime.
 use crate::tally::{Seen, Tally};
-use inputs::{below, draw, fair_state, flip, operation_for, regime_at, state_at};
+use inputs::{below, draw, fair_state, flip, operation_for, regime_at, regime_number, state_at};
 use machine::{Operation, Refusal, Regime, State};
+use second_words::Named;
 
 pub fn checks() -> Tally {
     Tally::of(25000, |n| {
@@ -28,8 +29,10 @@ pub fn decisions() -> Tally {
 
 // The rules speak of good states only.
 fn decision_seen(state: State, op: Operation) -> Seen {
-    let theirs = passed(second_rules::is_bad(state));
-    let theirs = theirs.and_then(|_| second_rules::outcome(state, op));
+    let Named { name, share, .. } = Named::from(op);
+    let theirs = passed(second_rules::is_bad(state)).and_then(|_| second_rules::outcome(
+        state, name, share, op.nxs, op.tlbip, op.rt,
+    ));
     let ours = passed(processor::is_bad(state)).and_then(|_| access::decide(state, op));
     Seen::of(ours, theirs)
 }
@@ -52,11 +55,12 @@ fn regime_seen(state: State, regime: Regime, second: bool) -> Seen {
             processor::is_unit_64k(state, regime, stage2),
         )
     });
+    let number = regime_number(regime);
     let theirs = passed(second_rules::is_bad(state)).map(|_| {
         (
-            second_rules::security_of(state, regime),
-            second_rules::vmid_of(state, regime),
-            second_rules::unit_64k(state, regime, stage2),
+            second_rules::security_of(state, number),
+            second_rules::vmid_of(state, number),
+            second_rules::unit_64k(state, number, stage2),
         )
     });
     Seen::of(ours, theirs)

@@ -2,6 +2,7 @@
 use crate::tally::{Seen, Tally};
 use inputs::{below, damaged, draw, flip, name_at, once_in, share_at, small, word_of};
 use machine::{Operation, Refusal};
+use second_words::Named;
 
 pub fn decodes() -> Tally {
     Tally::of(12000, |n| {
@@ -65,7 +66,7 @@ pub fn builds() -> Tally {
         let op = any_operation(draw(2, n));
         Seen::of(
             calls::build(op).ok_or(Refusal::Illegal),
-            second_words::encode(op).ok_or(Refusal::Illegal),
+            second_words::encode(Named::from(op)).ok_or(Refusal::Illegal),
         )
     })
 }

@@ -1,8 +1,9 @@
 // The access rules: a ladder of answers, the first group before the rest.
 use crate::names::{asid_applies, family, has_l};
+use crate::numbers::{name_at, share_at};
 use crate::reach::reached;
-use crate::regimes::{regime_of, vmid_of};
-use crate::security::{el2_enabled, hcrx_live, security_of};
+use crate::regimes::{regime_of, vmid_in};
+use crate::security::{el2_enabled, hcrx_live, security_in};
 use crate::traps::{trapped_e1, trapped_nv};
 use machine::{Family, Operation, Refusal, Scope, Share, State};
 
@@ -38,8 +39,8 @@ fn runs(state: State, op: Operation) -> Scope {
     let regime = regime_of(state, family);
     Scope {
         regime,
-        security: security_of(state, regime),
-        vmid: vmid_of(state, regime),
+        security: security_in(state, regime),
+        vmid: vmid_in(state, regime),
         stage2: family == Family::Stage2,
         reached: reached(state.board, op.share),
         asid: asid_applies(op.name, regime),
@@ -85,7 +86,30 @@ fn outcome_e3(state: State, op: Operation) -> Result<Scope, Refusal> {
     Ok(runs(state, op))
 }
 
-pub fn outcome(state: State, op: Operation) -> Result<Scope, Refusal> {
+// Numbers that stand for no name or no shareability are UNDEFINED.
+pub fn outcome(
+    state: State,
+    name: u8,
+    share: u8,
+    nxs: bool,
+    tlbip: bool,
+    rt: u8,
+) -> Result<Scope, Refusal> {
+    let name = name_at(name).ok_or(Refusal::Undefined)?;
+    let share = share_at(share).ok_or(Refusal::Undefined)?;
+    outcome_of(
+        state,
+        Operation {
+            tlbip,
+            nxs,
+            share,
+            name,
+            rt,
+        },
+    )
+}
+
+fn outcome_of(state: State, op: Operation) -> Result<Scope, Refusal> {
     if feature_absent(state, op) {
         return Err(Refusal::Undefined);
     }

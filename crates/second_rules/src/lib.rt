@@ -5,6 +5,7 @@ mod access;
 mod bad;
 mod domains;
 mod names;
+mod numbers;
 mod reach;
 mod regimes;
 mod security;

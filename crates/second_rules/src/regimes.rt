@@ -1,4 +1,5 @@
 // The regime that a name acts on, its VMID, and the unit of its bases.
+use crate::numbers::regime_at;
 use crate::security::el2_enabled;
 use machine::{Family, Regime, State};
 
@@ -39,26 +40,32 @@ pub fn regime_of(state: State, family: Family) -> Regime {
 }
 
 // "The VMID used is 0 while EL2 is disabled", and "0 outside EL1&0".
-pub fn vmid_of(state: State, regime: Regime) -> u16 {
+pub fn vmid_in(state: State, regime: Regime) -> u16 {
     if regime != Regime::EL10 || !el2_enabled(state) {
         return 0;
     }
     state.vmid
 }
 
-// DS of the regime acted on, not of the name.
-fn ds_of(state: State, regime: Regime, stage2: bool) -> bool {
+// The same of a regime's number: one that stands for none is outside EL1&0 too.
+pub fn vmid_of(state: State, regime: u8) -> u16 {
+    regime_at(regime).map_or(0, |regime| vmid_in(state, regime))
+}
+
+// DS of the regime acted on, not of the name; what is no regime has none.
+fn ds_of(state: State, regime: Option<Regime>, stage2: bool) -> bool {
     if stage2 {
         return state.ds.stage2;
     }
     match regime {
-        Regime::EL10 => state.ds.el1,
-        Regime::EL20 | Regime::EL2 => state.ds.el2,
-        Regime::EL3 => state.ds.el3,
+        Some(Regime::EL10) => state.ds.el1,
+        Some(Regime::EL20 | Regime::EL2) => state.ds.el2,
+        Some(Regime::EL3) => state.ds.el3,
+        None => false,
     }
 }
 
 // "in units of 64 KiB if LPA2 and the regime's DS hold"
-pub fn unit_64k(state: State, regime: Regime, stage2: bool) -> bool {
-    state.features.lpa2 && ds_of(state, regime, stage2)
+pub fn unit_64k(state: State, regime: u8, stage2: bool) -> bool {
+    state.features.lpa2 && ds_of(state, regime_at(regime), stage2)
 }

@@ -1,4 +1,5 @@
 // The security state, and whether EL2 is enabled in it.
+use crate::numbers::regime_at;
 use machine::{Regime, Security, State};
 
 // "Without EL3 the state is Non-secure. Otherwise {NSE, NS} (RME) or NS gives it." {1, 0} with RME is a bad state.
@@ -15,7 +16,7 @@ pub fn current_security(state: State) -> Security {
 }
 
 // "EL3's own is Root with RME, else Secure." The other regimes are of the current state, from EL3 too.
-pub fn security_of(state: State, regime: Regime) -> Security {
+pub fn security_in(state: State, regime: Regime) -> Security {
     if regime != Regime::EL3 {
         return current_security(state);
     }
@@ -23,6 +24,11 @@ pub fn security_of(state: State, regime: Regime) -> Security {
         return Security::Root;
     }
     Security::Secure
+}
+
+// The same of a regime's number: one that stands for none isn't EL3's.
+pub fn security_of(state: State, regime: u8) -> Security {
+    regime_at(regime).map_or(current_security(state), |regime| security_in(state, regime))
 }
 
 // "EL2 is enabled when present and either the state isn't Secure or SEL2 and EEL2 are both 1."

@@ -10,6 +10,7 @@ mod execution;
 mod gap;
 mod going;
 mod judging;
+mod numbers;
 mod operand;
 mod range;
 mod span;

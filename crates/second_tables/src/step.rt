@@ -1,9 +1,10 @@
 // What an instruction word and two register words come to in a good state, before a table is looked at.
+use crate::numbers::number_of_regime;
 use crate::operand::read;
 use crate::range::{is_unpredictable, last_address};
 use machine::{Form, Operand, Operation, Refusal, Regime, Scope, Security, State, Told};
 use second_rules::{outcome, unit_64k};
-use second_words::decode;
+use second_words::{Named, decode};
 
 #[derive(Clone, Copy)]
 pub struct Step {
@@ -17,12 +18,14 @@ pub struct Step {
 // "1, 3 to 5 by the access rules [..], 6, 7"
 pub fn step_of(state: State, word: u64, xt: u64, xt2: u64) -> Result<Step, Refusal> {
     let op = decode(word).ok_or(Refusal::Unknown)?;
-    let scope = outcome(state, op)?;
+    let named = Named::from(op);
+    let scope = outcome(state, named.name, named.share, op.nxs, op.tlbip, op.rt)?;
+    let regime = number_of_regime(scope.regime);
     let told = Told {
         tlbip: op.tlbip,
         form: form_of(scope),
         lpa2: state.features.lpa2,
-        unit64k: unit_64k(state, scope.regime, scope.stage2),
+        unit64k: unit_64k(state, regime, scope.stage2),
     };
     let fields = read(told, first_register(op, xt), second_register(op, xt2))?;
     let last = last_address(fields).ok_or(Refusal::NoGranule)?;

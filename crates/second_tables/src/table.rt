@@ -1,5 +1,6 @@
 // Tables of three words a slot: their shape, insert, and look up.
 use crate::entry::{has_asids, is_legal};
+use crate::numbers::number_of_regime;
 use crate::span::{base_at, exponent};
 use crate::tag::{slot_at, tag_of};
 use machine::{Entry, Match, Refusal, Regime, State};
@@ -66,10 +67,10 @@ fn is_found(entry: Entry, state: State, regime: Regime, asid: u16, address: u64)
     if company.regime != regime {
         return false;
     }
-    if company.security != security_of(state, regime) {
+    if company.security != security_of(state, number_of_regime(regime)) {
         return false;
     }
-    if company.vmid != vmid_of(state, regime) {
+    if company.vmid != vmid_of(state, number_of_regime(regime)) {
         return false;
     }
     if !holds(entry, address) {

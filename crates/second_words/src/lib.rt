@@ -4,8 +4,11 @@
 
 mod line;
 mod listing;
+mod named;
 mod rows;
+mod spelling;
 mod word;
 
 pub use listing::list;
+pub use named::Named;
 pub use word::{decode, encode};

@@ -1,22 +1,7 @@
 // What a line of the listing says: offset, TLBI or TLBIP, name, and registers.
+use crate::spelling::{of_name, of_share};
 use machine::Operation;
 use std::fmt;
-
-// The names' texts, and the shareabilities', in their order: local has no letters.
-const NAMES: [&str; 10] = [
-    "RVAE1",
-    "RVAAE1",
-    "RVALE1",
-    "RVAALE1",
-    "RVAE2",
-    "RVALE2",
-    "RVAE3",
-    "RVALE3",
-    "RIPAS2E1",
-    "RIPAS2LE1",
-];
-
-const SHARES: [&str; 3] = ["", "IS", "OS"];
 
 // "SYSP with odd Rt below 31 isn't listed."
 pub fn is_listed(op: &Operation) -> bool {
@@ -52,8 +37,8 @@ impl fmt::Display for Line {
             "{} {} {}{}{}, {}",
             self.offset,
             if op.tlbip { "TLBIP" } else { "TLBI" },
-            NAMES[op.name as usize],
-            SHARES[op.share as usize],
+            of_name(op.name).1,
+            of_share(op.share).1,
             if op.nxs { "NXS" } else { "" },
             Register(op.rt)
         )?;

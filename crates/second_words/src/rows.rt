@@ -1,4 +1,5 @@
 // 'Instruction words' written out: one row for each name and shareability, and a search by either side of a row.
+use crate::spelling::{of_name, of_share};
 use machine::{Name, Share};
 
 // op1, CRm and op2, as a word has them.
@@ -48,8 +49,9 @@ pub fn row_of(numbers: Numbers) -> Option<(Name, Share)> {
         .map(|row| (row.0, row.1))
 }
 
-pub fn numbers_of(name: Name, share: Share) -> Option<Numbers> {
+// None where no row has the name and the shareability of these numbers.
+pub fn numbers_of(name: u8, share: u8) -> Option<Numbers> {
     ROWS.iter()
-        .find(|row| row.0 == name && row.1 == share)
+        .find(|row| of_name(row.0).0 == name && of_share(row.1).0 == share)
         .map(|row| row.2)
 }

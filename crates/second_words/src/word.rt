@@ -1,4 +1,5 @@
 // A word taken apart bit group by bit group, and put together from a row.
+use crate::named::Named;
 use crate::rows::{numbers_of, row_of};
 use machine::Operation;
 
@@ -33,7 +34,7 @@ pub fn decode(word: u64) -> Option<Operation> {
     })
 }
 
-pub fn encode(op: Operation) -> Option<u64> {
+pub fn encode(op: Named) -> Option<u64> {
     if op.rt > 31 {
         return None;
     }
