@@ -35,7 +35,7 @@ fn listing_seen(alloc: Global, seed: u64) -> Result<Seen, AllocError> {
 
 // The second model lists the whole; the proved room lists as much as there is room for, then the rest from there on, then the tail.
 fn part_seen(alloc: Global, code: &[u8], room: usize) -> Result<Seen, AllocError> {
-    let theirs = second_words::list(alloc, code)?;
+    let theirs = second_words::list_text(alloc, code)?;
     let mut out = vec![in alloc; 0u8; 1400]?;
     let same = match list_parts(code, out.as_mut_slice(), room) {
         Some(ours) => ours.is_full(code, theirs.as_bytes(), room)

@@ -5,10 +5,11 @@
 mod line;
 mod listing;
 mod named;
+mod room;
 mod rows;
 mod spelling;
 mod word;
 
-pub use listing::list;
+pub use listing::{list, list_text};
 pub use named::Named;
 pub use word::{decode, encode};
