@@ -1,10 +1,20 @@
-// Calls that are lent a table, of which each model has one.
+// What the calls are lent: the first words of an array, which is larger than any of them needs.
 use crate::numbered::Numbered;
 use crate::tally::Seen;
-use std::alloc::AllocError;
 
-// The two models on tables of the same words, which have to be the same afterwards too.
-pub fn on_tables<A, F, G>(mut table: Vec<u64>, ours: F, theirs: G) -> Result<Seen, AllocError>
+// The first words: all where there are no more.
+pub fn first_words(words: &[u64], count: usize) -> &[u64] {
+    &words[..count.min(words.len())]
+}
+
+// The two models, each on a table of its own. The arrays have to be the same afterwards too, and that with the words
+// that are not lent.
+pub fn on_tables<const N: usize, A, F, G>(
+    table: &mut [u64; N],
+    words: usize,
+    ours: F,
+    theirs: G,
+) -> Seen
 where
     A: Numbered + PartialEq + Copy,
     F: Fn(&mut [u64]) -> A,
@@ -12,7 +22,8 @@ where
     requires ours { F.IsAlwaysCallable ours }
     requires theirs { G.IsAlwaysCallable theirs }
 {
-    let mut second = table.clone()?;
-    let seen = Seen::of(ours(table.as_mut_slice()), theirs(second.as_mut_slice()));
-    Ok(seen.and(table.as_slice() == second.as_slice()))
+    let lent = words.min(N);
+    let mut second = *table;
+    let seen = Seen::of(ours(&mut table[..lent]), theirs(&mut second[..lent]));
+    seen.and(table.as_slice() == second.as_slice())
 }

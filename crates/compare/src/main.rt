@@ -1,5 +1,6 @@
 // Runs the public calls and the second model on the same inputs, and tells of each call how many inputs it had, which answers they got, and how
-// many of them the two answer differently. A seed, a size and an allocator are handed on apart: together they are no thing of their own.
+// many of them the two answer differently. It needs no heap: tables, lists and texts are arrays. A seed and a size are
+// handed on apart: together they are no thing of their own.
 #![tactic(auto)]
 
 mod lent;
@@ -20,22 +21,21 @@ use std::io;
 use tally::Tally;
 
 fn main(rt: HostRuntime) -> io::Result<()> {
-    let alloc = rt.alloc();
     let tallies = [
         told(&rt, "decode", on_words::decodes())?,
         told(&rt, "build", on_words::builds())?,
-        told(&rt, "listing", on_listing::listings(alloc)?)?,
+        told(&rt, "listing", on_listing::listings())?,
         told(&rt, "is_bad", on_state::checks())?,
         told(&rt, "decide", on_state::decisions())?,
         told(&rt, "regime", on_state::regimes())?,
         told(&rt, "read_operand", on_operands::reads())?,
         told(&rt, "write_operand", on_operands::writes())?,
         told(&rt, "slot", on_slots::slots())?,
-        told(&rt, "insert", on_insert::inserts(alloc)?)?,
-        told(&rt, "look_up", on_lookup::lookups(alloc)?)?,
-        told(&rt, "execute", on_execute::executions(alloc)?)?,
-        told(&rt, "run", on_run::runs(alloc)?)?,
-        told(&rt, "judge", on_judge::verdicts(alloc)?)?,
+        told(&rt, "insert", on_insert::inserts())?,
+        told(&rt, "look_up", on_lookup::lookups())?,
+        told(&rt, "execute", on_execute::executions())?,
+        told(&rt, "run", on_run::runs())?,
+        told(&rt, "judge", on_judge::verdicts())?,
     ];
     let sum = tallies
         .iter()

@@ -3,45 +3,49 @@ use crate::lent::on_tables;
 use crate::tally::{Seen, Tally};
 use inputs::{any_work, below, broken, draw, fill_taken, legal_entry, once_in, words_of};
 use machine::Entry;
-use std::alloc::{AllocError, Global};
 
-pub fn inserts(alloc: Global) -> Result<Tally, AllocError> {
-    let mut tally = Tally::drawn(14000, 9, |seed| small_insert(alloc, seed))?;
+pub fn inserts() -> Tally {
+    let mut tally = Tally::drawn(14000, 9, small_insert);
     for (seed, words, few) in [
         (1, 6144, 100000),
         (2, 6144, 1500),
         (3, 6147, 100),
         (4, 6145, 100),
     ] {
-        tally.count(large_insert(alloc, seed, words, few)?);
+        tally.count(large_insert(seed, words, few));
     }
-    Ok(tally)
+    tally
 }
 
-fn small_insert(alloc: Global, seed: u64) -> Result<Seen, AllocError> {
+fn small_insert(seed: u64) -> Seen {
     let slots = below(seed, 0, 25);
     let few = if once_in(seed, 1, 2) { 2 } else { 12 };
-    let mut table = vec![in alloc; 0u64; words_of(slots, draw(seed, 4))]?;
+    let mut table = [0u64; 80];
     fill_taken(
-        table.as_mut_slice(),
+        &mut table,
         slots as usize,
         any_work(draw(seed, 2)),
         few,
         draw(seed, 3),
     );
-    insert_seen(table, entry_for(draw(seed, 5)), draw(seed, 6))
+    insert_seen(
+        &mut table,
+        words_of(slots, draw(seed, 4)),
+        entry_for(draw(seed, 5)),
+        draw(seed, 6),
+    )
 }
 
-fn large_insert(alloc: Global, seed: u64, words: usize, few: u64) -> Result<Seen, AllocError> {
-    let mut table = vec![in alloc; 0u64; words]?;
+fn large_insert(seed: u64, words: usize, few: u64) -> Seen {
+    let mut table = [0u64; 6160];
     fill_taken(
-        table.as_mut_slice(),
+        &mut table,
         2048,
         any_work(draw(seed, 2)),
         few,
         draw(seed, 3),
     );
-    insert_seen(table, legal_entry(draw(seed, 5)), draw(seed, 6))
+    insert_seen(&mut table, words, legal_entry(draw(seed, 5)), draw(seed, 6))
 }
 
 fn entry_for(seed: u64) -> Entry {
@@ -53,9 +57,10 @@ fn entry_for(seed: u64) -> Entry {
     }
 }
 
-fn insert_seen(table: Vec<u64>, entry: Entry, out: u64) -> Result<Seen, AllocError> {
+fn insert_seen<const N: usize>(table: &mut [u64; N], words: usize, entry: Entry, out: u64) -> Seen {
     on_tables(
         table,
+        words,
         |table| calls::insert(table, entry, out),
         |table| second_tables::insert(table, entry, out),
     )

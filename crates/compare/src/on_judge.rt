@@ -1,4 +1,5 @@
 // Judge, on lists that are to clear the target.
+use crate::lent::first_words;
 use crate::numbered::Numbered;
 use crate::tally::{Seen, Tally};
 use inputs::{
@@ -6,13 +7,12 @@ use inputs::{
     work_of,
 };
 use machine::{State, Target};
-use std::alloc::{AllocError, Global};
 
-pub fn verdicts(alloc: Global) -> Result<Tally, AllocError> {
-    Tally::drawn(11000, 13, |seed| verdict_seen(alloc, seed))
+pub fn verdicts() -> Tally {
+    Tally::drawn(11000, 13, verdict_seen)
 }
 
-fn verdict_seen(alloc: Global, seed: u64) -> Result<Seen, AllocError> {
+fn verdict_seen(seed: u64) -> Seen {
     let state = fair_state(draw(seed, 0));
     let plan = plan_of(draw(seed, 1));
     let own = draw(seed, 2);
@@ -21,14 +21,14 @@ fn verdict_seen(alloc: Global, seed: u64) -> Result<Seen, AllocError> {
     let last_work = work_of(state, step_at(state, plan, last, own), draw(seed, 3));
     let aimed = target_for(first_work, last_work, draw(seed, 4));
     let target = given(aimed, state, draw(seed, 5));
-    let mut list = vec![in alloc; 0u64; plan.words]?;
-    put_list(list.as_mut_slice(), state, plan, own);
-    let ours = calls::judge(state, target, list.as_slice());
-    let theirs = second_tables::judge(state, target, list.as_slice());
-    Ok(Seen {
+    let mut words = [0u64; 60];
+    put_list(&mut words, state, plan, own);
+    let list = first_words(&words, plan.words);
+    let ours = calls::judge(state, target, list);
+    Seen {
         number: ours.number(),
-        same: Ok(ours) == theirs,
-    })
+        same: Ok(ours) == second_tables::judge(state, target, list),
+    }
 }
 
 fn given(target: Target, state: State, seed: u64) -> Target {

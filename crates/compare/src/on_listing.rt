@@ -3,10 +3,9 @@ use crate::tally::{Seen, Tally};
 use inputs::{below, draw, flip, given, name_at, once_in, share_at, small, word_of};
 use listing::Listed;
 use machine::Operation;
-use std::alloc::{AllocError, Global};
 
-pub fn listings(alloc: Global) -> Result<Tally, AllocError> {
-    Tally::drawn(3000, 14, |seed| listing_seen(alloc, seed))
+pub fn listings() -> Tally {
+    Tally::drawn(3000, 14, listing_seen)
 }
 
 fn code_word(seed: u64) -> u64 {
@@ -23,26 +22,29 @@ fn code_word(seed: u64) -> u64 {
     given(word_of(op), 6, draw(seed, 7))
 }
 
-fn listing_seen(alloc: Global, seed: u64) -> Result<Seen, AllocError> {
-    let mut code = Vec::new(alloc);
-    for place in 0..20u64 {
-        let word = (code_word(draw(draw(seed, 0), place)) % 4294967296) as u32;
-        code.extend_from_slice(word.to_le_bytes().as_slice())?;
+fn listing_seen(seed: u64) -> Seen {
+    let mut code = [0u8; 80];
+    put_code(&mut code, draw(seed, 0));
+    let len = below(seed, 1, 81) as usize;
+    part_seen(&code[..len.min(80)], (52 + below(seed, 2, 300)) as usize)
+}
+
+fn put_code(code: &mut [u8], seed: u64) {
+    let (words, _) = code.as_chunks_mut::<4>();
+    for (place, word) in words.iter_mut().enumerate() {
+        *word = ((code_word(draw(seed, place as u64)) % 4294967296) as u32).to_le_bytes();
     }
-    code.truncate(below(seed, 1, 81) as usize);
-    part_seen(alloc, code.as_slice(), (52 + below(seed, 2, 300)) as usize)
 }
 
 // The second model lists the whole; the proved room lists as much as there is room for, then the rest from there on, then the tail.
-fn part_seen(alloc: Global, code: &[u8], room: usize) -> Result<Seen, AllocError> {
-    let theirs = second_words::list_text(alloc, code)?;
-    let mut out = vec![in alloc; 0u8; 1400]?;
-    let same = match list_parts(code, out.as_mut_slice(), room) {
-        Some(ours) => ours.is_full(code, theirs.as_bytes(), room)
-            && is_text(out.as_slice(), ours.all, theirs.as_bytes()),
-        None => false,
-    };
-    Ok(Seen { number: 0, same })
+fn part_seen(code: &[u8], room: usize) -> Seen {
+    let mut theirs = [0u8; 1400];
+    let len = second_words::list(code, &mut theirs);
+    let mut ours = [0u8; 1400];
+    let same = list_parts(code, &mut ours, room).is_some_and(|parts| {
+        parts.all == len && parts.is_full(code, &theirs, room) && ours == theirs
+    });
+    Seen { number: 0, same }
 }
 
 // What was listed of the code at first, and how much text all is.
@@ -81,9 +83,4 @@ fn list_parts(code: &[u8], out: &mut [u8], room: usize) -> Option<Parts> {
         first,
         all: written.checked_add(tail)?,
     })
-}
-
-// Whether a buffer has a text and nothing behind it.
-fn is_text(out: &[u8], len: usize, text: &[u8]) -> bool {
-    out.get(..len) == Some(text) && out.iter().skip(len).all(|byte| *byte == 0)
 }

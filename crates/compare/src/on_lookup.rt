@@ -1,11 +1,11 @@
 // Look up, in tables aimed at the address.
+use crate::lent::first_words;
 use crate::tally::{Seen, Tally};
 use inputs::{
     below, draw, fair_state, fill, flip, good_state, legal_address, number16, once_in, power,
     regime_at, words_of,
 };
 use machine::{Company, Regime, State, Work};
-use std::alloc::{AllocError, Global};
 
 // What is asked: a state, a regime, an ASID and an address.
 #[derive(Clone, Copy)]
@@ -16,12 +16,12 @@ struct Asked {
     address: u64,
 }
 
-pub fn lookups(alloc: Global) -> Result<Tally, AllocError> {
-    let mut tally = Tally::drawn(14000, 10, |seed| small_lookup(alloc, seed))?;
+pub fn lookups() -> Tally {
+    let mut tally = Tally::drawn(14000, 10, small_lookup);
     for (seed, words) in [(1, 6144), (2, 6144), (3, 6147), (4, 6146)] {
-        tally.count(large_lookup(alloc, seed, words)?);
+        tally.count(large_lookup(seed, words));
     }
-    Ok(tally)
+    tally
 }
 
 impl Asked {
@@ -81,26 +81,26 @@ fn company_in(state: State, regime: Regime) -> Company {
     }
 }
 
-fn small_lookup(alloc: Global, seed: u64) -> Result<Seen, AllocError> {
+fn small_lookup(seed: u64) -> Seen {
     let asked = Asked::of(fair_state(draw(seed, 0)), draw(seed, 1));
     let slots = below(seed, 2, 7);
-    let mut table = vec![in alloc; 0u64; words_of(slots, draw(seed, 6))]?;
+    let mut table = [0u64; 40];
     fill(
-        table.as_mut_slice(),
+        &mut table,
         slots as usize,
         asked.work(draw(seed, 3)),
         asked.work(draw(seed, 4)),
         draw(seed, 5),
     );
-    Ok(asked.seen(table.as_slice()))
+    asked.seen(first_words(&table, words_of(slots, draw(seed, 6))))
 }
 
 // The entries are another's, so that many slots are examined.
-fn large_lookup(alloc: Global, seed: u64, words: usize) -> Result<Seen, AllocError> {
+fn large_lookup(seed: u64, words: usize) -> Seen {
     let state = good_state(draw(seed, 0));
     let asked = Asked::of(state, draw(seed, 1));
     let work = Asked::of(state, draw(seed, 2)).work(draw(seed, 3));
-    let mut table = vec![in alloc; 0u64; words]?;
-    fill(table.as_mut_slice(), 2048, work, work, draw(seed, 5));
-    Ok(asked.seen(table.as_slice()))
+    let mut table = [0u64; 6160];
+    fill(&mut table, 2048, work, work, draw(seed, 5));
+    asked.seen(first_words(&table, words))
 }

@@ -1,7 +1,6 @@
 // What is counted of a call: inputs, answers by number, and differences.
 use crate::numbered::Numbered;
 use inputs::draw;
-use std::alloc::AllocError;
 use std::fmt;
 
 // One input: the proved room's answer number, and whether the second model agrees in everything.
@@ -57,19 +56,11 @@ impl Tally {
         tally
     }
 
-    // The same, of inputs that are made from the numbers of a seed, where there is memory for each.
-    pub fn drawn<F: Fn(u64) -> Result<Seen, AllocError>>(
-        inputs: u64,
-        seed: u64,
-        seen: F,
-    ) -> Result<Tally, AllocError>
+    // The same, of inputs that are made from the numbers of a seed.
+    pub fn drawn<F: Fn(u64) -> Seen>(inputs: u64, seed: u64, seen: F) -> Tally
         requires { F.IsAlwaysCallable seen }
     {
-        let mut tally = Tally::NONE;
-        for n in 0..inputs {
-            tally.count(seen(draw(seed, n))?);
-        }
-        Ok(tally)
+        Tally::of(inputs, |n| seen(draw(seed, n)))
     }
 
     pub fn count(&mut self, seen: Seen) {
