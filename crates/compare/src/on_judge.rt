@@ -3,8 +3,8 @@ use crate::lent::first_words;
 use crate::numbered::Numbered;
 use crate::tally::{Seen, Tally};
 use inputs::{
-    any_target, below, draw, fair_state, missed_target, plan_of, put_list, step_at, target_for,
-    work_of,
+    aim_of, any_target, below, draw, fair_state, missed_target, plan_of, put_list, step_at,
+    target_for, work_of,
 };
 use machine::{State, Target};
 
@@ -17,10 +17,10 @@ fn verdict_seen(seed: u64) -> Seen {
     let plan = plan_of(draw(seed, 1));
     let own = draw(seed, 2);
     let last = plan.steps.wrapping_sub(1);
-    let first_work = work_of(state, step_at(state, plan, 0, own), draw(seed, 3));
+    let first = aim_of(state, step_at(state, plan, 0, own), draw(seed, 3));
     let last_work = work_of(state, step_at(state, plan, last, own), draw(seed, 3));
-    let aimed = target_for(first_work, last_work, draw(seed, 4));
-    let target = given(aimed, state, draw(seed, 5));
+    let aimed = target_for(first, last_work, draw(seed, 4));
+    let target = given(aimed, first.asid, state, draw(seed, 5));
     let mut words = [0u64; 60];
     put_list(&mut words, state, plan, own);
     let list = first_words(&words, plan.words);
@@ -31,10 +31,10 @@ fn verdict_seen(seed: u64) -> Seen {
     }
 }
 
-fn given(target: Target, state: State, seed: u64) -> Target {
+fn given(target: Target, asid: u16, state: State, seed: u64) -> Target {
     match below(seed, 0, 20) {
         0 => any_target(draw(seed, 1)),
-        1..=8 => missed_target(target, state, draw(seed, 1)),
+        1..=8 => missed_target(target, asid, state, draw(seed, 1)),
         _ => target,
     }
 }

@@ -26,4 +26,4 @@ pub use slots::{SlotWords, senseless, slot_of};
 pub use states::{fair_state, good_state, state_at};
 pub use steps::{Parts, Step, field_for, number_for, step_for, step_of};
 pub use targets::{any_target, missed_target, target_for};
-pub use works_made::{any_work, work_of};
+pub use works_made::{Aim, aim_of, any_work, work_of};

@@ -3,16 +3,14 @@ use crate::going::{address_in, has_ids, lowest};
 use crate::legal::{legal_address, legal_company};
 use crate::numbers::{regime_at, security_at};
 use crate::seeds::{below, draw, flip, once_in, power, small};
+use crate::works_made::Aim;
 use machine::{State, Target, Work};
 
 // What the first and the last step cover, or a part of it; mostly on one of the processors that are reached.
-pub fn target_for(one: Work, two: Work, seed: u64) -> Target {
+pub fn target_for(aim: Aim, two: Work, seed: u64) -> Target {
+    let one = aim.work;
     let company = one.company;
-    let ids = has_ids(company);
-    let asid = match one.asid {
-        Some(asid) => Some((asid % 65536) as u16),
-        None => (ids && flip(seed, 4)).then_some(0),
-    };
+    let is_one = one.asid.is_some() || has_ids(company) && flip(seed, 4);
     let least = one.first.min(two.first);
     let most = one.last.max(two.last);
     let first = if once_in(seed, 0, 3) {
@@ -29,7 +27,7 @@ pub fn target_for(one: Work, two: Work, seed: u64) -> Target {
         company,
         wide: one.wide != (one.d128 && once_in(seed, 3, 4)),
         granule: (one.granule % 4) as u8,
-        asid,
+        asid: is_one.then_some(aim.asid),
         leaves: one.leaves || flip(seed, 5),
         processors: processors_of(one.reached, draw(seed, 2)),
         first,
@@ -62,8 +60,8 @@ pub fn any_target(seed: u64) -> Target {
     }
 }
 
-// One of the fields is changed.
-pub fn missed_target(target: Target, state: State, seed: u64) -> Target {
+// One of the fields is changed; a target of all ASIDs is made one of the ASID that goes with it.
+pub fn missed_target(target: Target, asid: u16, state: State, seed: u64) -> Target {
     let whose = draw(seed, 1);
     let size = draw(seed, 2);
     let mask = draw(seed, 3);
@@ -72,7 +70,7 @@ pub fn missed_target(target: Target, state: State, seed: u64) -> Target {
     let mut next = target;
     match below(seed, 0, 32) {
         0 => next.wide = !target.wide,
-        1 if target.asid.is_none() => next.asid = Some(0),
+        1 if target.asid.is_none() => next.asid = Some(asid),
         1 => next.asid = None,
         2 => next.asid = target.asid.map(|asid| asid.wrapping_add(1)),
         3 => next.leaves = !target.leaves,
