@@ -40,12 +40,21 @@ pub fn run(table: &mut [u64], state: State, list: &[u64]) -> Result<usize, Refus
     Ok(sum)
 }
 
-// The first step that does not answer 0.
+// The first step that does not answer 0: of 16, since a list has no more.
 pub fn first_refused(state: State, list: &[u64]) -> Option<usize> {
-    list.as_chunks::<3>()
-        .0
-        .iter()
-        .position(|&[word, xt, xt2]| step_of(state, word, xt, xt2).is_err())
+    for place in 0..16usize {
+        let [word, xt, xt2] = words_at(list, place)?;
+        if step_of(state, word, xt, xt2).is_err() {
+            return Some(place);
+        }
+    }
+    None
+}
+
+// The three words of a step, where the list has it.
+fn words_at(list: &[u64], place: usize) -> Option<[u64; 3]> {
+    let words = list.get(place.saturating_mul(3)..)?;
+    Some([*words.first()?, *words.get(1)?, *words.get(2)?])
 }
 
 // "A dropped slot is three zeros; every other word stays, those of senseless slots too."
