@@ -77,8 +77,13 @@ impl Line<'_> {
             ∷ (48 + x % 100 / 10) ∷ (48 + x % 100 % 10) ∷ []) 4 }
         ensures buffer { SameBuffer self.old self.new }
     {
-        self.put_two(x / 100);
-        self.put_two(x % 100);
+        let n = self.len;
+        let out = &mut *self.out;
+        out[n] = 48 + (x / 1000) as u8;
+        out[n + 1] = 48 + (x / 100 % 10) as u8;
+        out[n + 2] = 48 + (x % 100 / 10) as u8;
+        out[n + 3] = 48 + (x % 100 % 10) as u8;
+        self.len = n + 4;
     }
 
     // The two digits of a number below 100, the first of which may be 0.
@@ -87,7 +92,10 @@ impl Line<'_> {
         ensures gains { Gains self.old self.new ((48 + x / 10) ∷ (48 + x % 10) ∷ []) 2 }
         ensures buffer { SameBuffer self.old self.new }
     {
-        self.put_byte(48 + (x / 10) as u8);
-        self.put_byte(48 + (x % 10) as u8);
+        let n = self.len;
+        let out = &mut *self.out;
+        out[n] = 48 + (x / 10) as u8;
+        out[n + 1] = 48 + (x % 10) as u8;
+        self.len = n + 2;
     }
 }
